@@ -1,0 +1,1 @@
+// Mathematics over the definitions of paper: everything stands in specs/ and proofs/.

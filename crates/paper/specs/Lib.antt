@@ -1,0 +1,9 @@
+pub mod Limits
+pub mod Net
+pub mod Route
+pub mod Text
+pub mod File
+pub mod Normal
+pub mod Trace
+pub mod Rooms
+pub mod Outcome

@@ -1,0 +1,91 @@
+-- The outcome table: each number, given exactly when its row says so, and what it leaves in each room.
+-- Assumes nothing: these are definitions.
+use Prim.Native.Nat.{ℕ, _*_, _/_, _<_, _≤_, min}
+use mathlib.Core.Path.{_≡_}
+use mathlib.Core.Bool.{Bool, true, false, cond, _&&_}
+use mathlib.Core.List.{List}
+use mathlib.Core.Option.{Option}
+use lib.Dec.{leb, ltb}
+use lib.ListN.{length}
+use Rattle.paper.specs.Limits.{heaviest, longest}
+use Rattle.paper.specs.Net.{Link, Fun, Net, net, Key, hop}
+use Rattle.paper.specs.Route.{Best, flat}
+use Rattle.paper.specs.File.{Judged, refused, accepted, judge}
+use Rattle.paper.specs.Normal.{normal}
+use Rattle.paper.specs.Trace.{trace}
+use Rattle.paper.specs.Rooms.{laid, NoRoute, AllHeavy, LeastWeight, MoreSteps, Tabled}
+
+-- outcome NUMBER LINE WEIGHT STEPS LENGTH
+pub data Outcome : Type 0 where
+  outcome : ℕ → ℕ → ℕ → ℕ → ℕ → Outcome
+
+-- rooms WEIGHT COUNT CHOICE STEP TEXT
+pub data Rooms : Type 0 where
+  rooms : List ℕ → List ℕ → List ℕ → List ℕ → List ℕ → Rooms
+
+-- as many steps as the limit allows and a step room of m entries holds
+unfoldable pub most-steps : ℕ → ℕ
+most-steps m = min longest (m / 4)
+
+-- S and D are below n, a and b below p
+unfoldable pub known : (n p S a D b : ℕ) → Bool
+known n p S a D b = ltb S n && ltb D n && ltb a p && ltb b p
+
+-- the weight, count and choice rooms are long enough for N = n × p places
+unfoldable pub roomy : ℕ → Rooms → Bool
+roomy N (rooms W C X Q T) = leb (N * N) (length W) && leb (N * N) (length C) && leb (8 * (N * N)) (length X)
+
+-- ## The enquiry S, a, D, b of an accepted network: 6, 7, 8, 9, 10, 11, 0
+
+module _ (hop : Key → ℕ → Option (ℕ × ℕ)) (n p S a D b : ℕ) where
+  -- past 6 and 7, with the tables written
+  pub record Searched (W C X Q T W′ C′ X′ : List ℕ) : Type 0 where
+    pub in-range : known n p S a D b ≡ true
+    pub enough : roomy (n * p) (rooms W C X Q T) ≡ true
+    pub tabled : Tabled hop n p W C X W′ C′ X′
+
+  -- past 8, 9 and 10: the best route is within the limits and the step room Q holds it
+  pub record Found (Q : List ℕ) (ks : List Key) (w : ℕ) : Type 0 where
+    pub best : Best hop S a D b ks w
+    pub light : w ≤ heaviest
+    pub short : length ks ≤ most-steps (length Q)
+
+  pub data Answers : Rooms → Outcome → Rooms → Type 0 where
+    six : {r : Rooms} → known n p S a D b ≡ false → Answers r (outcome 6 0 0 0 0) r
+    seven : {r : Rooms} → known n p S a D b ≡ true → roomy (n * p) r ≡ false → Answers r (outcome 7 0 0 0 0) r
+    eight : {W C X Q T W′ C′ X′ : List ℕ} → Searched W C X Q T W′ C′ X′
+        → NoRoute hop S a D b
+        → Answers (rooms W C X Q T) (outcome 8 0 0 0 0) (rooms W′ C′ X′ Q T)
+    nine : {W C X Q T W′ C′ X′ : List ℕ} → Searched W C X Q T W′ C′ X′
+        → AllHeavy hop S a D b
+        → Answers (rooms W C X Q T) (outcome 9 0 0 0 0) (rooms W′ C′ X′ Q T)
+    ten : {W C X Q T W′ C′ X′ : List ℕ} {w : ℕ} → Searched W C X Q T W′ C′ X′
+        → LeastWeight hop S a D b w → MoreSteps hop S a D b w (most-steps (length Q))
+        → Answers (rooms W C X Q T) (outcome 10 0 0 0 0) (rooms W′ C′ X′ Q T)
+    eleven : {W C X Q T W′ C′ X′ : List ℕ} {ks : List Key} {w : ℕ} → Searched W C X Q T W′ C′ X′
+        → Found Q ks w → length T < length (trace hop S a ks w)
+        → Answers (rooms W C X Q T) (outcome 11 0 w (length ks) 0) (rooms W′ C′ X′ (laid Q 0 (flat ks)) T)
+    zero : {W C X Q T W′ C′ X′ : List ℕ} {ks : List Key} {w : ℕ} → Searched W C X Q T W′ C′ X′
+        → Found Q ks w → length (trace hop S a ks w) ≤ length T
+        → Answers (rooms W C X Q T) (outcome 0 0 w (length ks) (length (trace hop S a ks w)))
+        (rooms W′ C′ X′ (laid Q 0 (flat ks)) (laid T 0 (trace hop S a ks w)))
+
+-- ## The route enquiry of a file: 1 to 5 first, each with all rooms as before the call
+
+module _ (file : List ℕ) (S a D b : ℕ) where
+  pub data Routed : Rooms → Outcome → Rooms → Type 0 where
+    bad-file : {d i : ℕ} {r : Rooms} → judge file ≡ refused d i → Routed r (outcome d i 0 0 0) r
+    good-file : {n p : ℕ} {ls : List Link} {fs : List Fun} {o : Outcome} {r s : Rooms} → judge file ≡ accepted (net n p ls fs)
+        → Answers (hop (net n p ls fs)) n p S a D b r o s → Routed r o s
+
+-- ## The normal writer: 1 to 5, 11, 0
+
+-- told OUTCOME TEXT
+pub data Told : Type 0 where
+  told : Outcome → List ℕ → Told
+
+unfoldable pub normally : Judged → List ℕ → Told
+normally (refused d i) T = told (outcome d i 0 0 0) T
+normally (accepted m) T =
+    cond (leb (length (normal m)) (length T)) (told (outcome 0 0 0 0 (length (normal m))) (laid T 0 (normal m)))
+    (told (outcome 11 0 0 0 0) T)
