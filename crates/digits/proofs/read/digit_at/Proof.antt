@@ -1,3 +1,4 @@
+-- A byte below 48 or above 57 is no digit. Assumes nothing.
 use Rattle.digits.proofs.Reading.{digit-low, digit-high, digit-in}
 use borrow.Author.Needs.{needs}
 use Rattle.digits.proofs.read.digit_at.Statement.{statement}

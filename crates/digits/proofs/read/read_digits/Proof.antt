@@ -1,3 +1,4 @@
+-- The loop keeps: what is told of all digits is what is told of those from i on, read on from v. Assumes nothing.
 use denote.Ref.{now}
 use mathlib.Core.Path.{_≡_, sym, _∙_}
 use Prim.Native.Nat.{_≤_, _-_}

@@ -1,3 +1,4 @@
+-- No byte, a zero alone, a zero with more behind it, or any other first byte. Assumes nothing.
 use mathlib.Core.Path.{sym, _∙_}
 use native.Mathlib.Omega.{arith}
 use Rattle.digits.proofs.Reading.{told-none, told-zero, told-leading, told-plain}

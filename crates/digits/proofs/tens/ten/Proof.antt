@@ -1,3 +1,4 @@
+-- The table's rule is a test at each of its ten entries, which antt computes. Assumes nothing.
 use mathlib.Core.List.{List, [], _∷_}
 use mathlib.Core.Bool.{Bool}
 use Prim.Native.Nat.{ℕ, _^_}

@@ -1,3 +1,4 @@
+-- The power of ten comes from the table. Assumes nothing.
 use Rattle.digits.proofs.Digits.{ten-power-pos}
 use Rattle.digits.specs.Write.{digitByte}
 use borrow.Author.Needs.{needs}

@@ -1,3 +1,4 @@
+-- A store is a text of one byte. Assumes nothing.
 use Rattle.digits.proofs.Writing.{byte-put}
 use borrow.Author.Needs.{needs}
 use Rattle.digits.proofs.write.put_byte.Statement.{statement}

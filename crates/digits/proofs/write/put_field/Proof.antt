@@ -1,3 +1,4 @@
+-- A tab, then a number. Assumes nothing.
 use Rattle.digits.proofs.Writing.{then}
 use borrow.Author.Needs.{needs}
 use Rattle.digits.proofs.write.put_field.Statement.{statement}

@@ -1,3 +1,4 @@
+-- The loop keeps: the last k digits of n are left to write. Assumes nothing.
 use borrow.Author.Needs.{needs}
 use Prim.Native.Nat.{_≤_}
 use native.Mathlib.Omega.{arith}
@@ -34,7 +35,7 @@ loop-less : tie.Need-loop-less Inv-loop μ-loop
 loop-less c = search needs
 
 loop-again : tie.Need-loop-again Inv-loop μ-loop
-loop-again c = let l = c .before .before .before .before .before .before .loop in (search needs, digit-left (c .before .before .before .before .before .before .before .before .before .args .n) (l .k) _ (c .before .before .before .before .before .loop-test .taken) (l .inv .1) (c .before .before .before .digit .ensures) (c .before .before .put-byte .ensures))
+loop-again c = let l = c .before .before .before .before .before .before .loop in (search needs, digit-left (c .before .before .before .before .before .before .before .before .before .args .n) (l .k) _ (omega arith) (l .inv .1) (c .before .before .before .digit .ensures) (c .before .before .put-byte .ensures))
 
 same-length : tie.Need-same-length Inv-loop μ-loop
 same-length c = search needs

@@ -1,3 +1,4 @@
+-- The loop keeps: the word from its byte k on is left to write. Assumes nothing.
 use borrow.Author.Needs.{needs}
 use Prim.Native.Nat.{_≤_, _-_}
 use native.Mathlib.Omega.{arith}

@@ -1,3 +1,4 @@
+-- A tab, then a word. Assumes nothing.
 use Rattle.digits.proofs.Writing.{then}
 use borrow.Author.Needs.{needs}
 use Rattle.digits.proofs.write.put_word_field.Statement.{statement}

@@ -1,3 +1,4 @@
+-- The loop keeps: n has at least w digits. Assumes nothing.
 use borrow.Author.Needs.{needs}
 use Prim.Native.Nat.{_+_, _≤_, _<_, _-_, _^_}
 use mathlib.Core.Path.{_≡_}
