@@ -5,14 +5,13 @@ pub mod Spelling
 pub mod Shapes
 pub mod Fold
 pub mod Demand3
-pub mod Cases
 pub mod Order
 pub mod Parse
 pub mod Cap
 pub mod Fixpoint
 pub mod Outcome
 pub mod Check
-pub mod Examples
+pub mod Certificate
 pub mod Parts
 pub mod Pigeon
 pub mod Depth
