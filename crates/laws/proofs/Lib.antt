@@ -18,6 +18,7 @@ pub mod Depth
 pub mod Solve
 pub mod Marked
 pub mod Unique
+pub mod Once
 pub mod Lookup
 pub mod Greedy
 pub mod Tight
