@@ -1,4 +1,5 @@
--- The marked examples, as the outcomes that the definitions give: the best route, no route, or only heavy ones. One table, one statement.
+-- Every marked example holds: one table, one statement (both in paper's specs/Examples), one computed test.
+-- The closed table of each network is computed by Solve and judged by Certificate; first-by-key by trying every route of as many steps.
 -- Assumes nothing.
 use Prim.Native.Nat.{ℕ, zero, suc, _+_, _<_, _≤_, min}
 use mathlib.Core.Path.{_≡_, refl, sym, ap, _∙_}
@@ -11,14 +12,14 @@ use lib.Dec.{eqb, ltb, leb, leb→le, ltb→lt, eqb→eq, eqb-refl, T}
 use lib.ListN.{length}
 use Rattle.paper.specs.Net.{Kind, conv, wrap, unwrap, Link, link, Fun, fun, Net, net, Key, key, hop}
 use Rattle.paper.specs.Route.{At, at, then, step, replay, Feasible, Lex, flat, rank, Best}
-use Rattle.paper.specs.Rooms.{NoRoute, AllHeavy}
+use Rattle.paper.specs.Examples.{Given, best, heavy, none-at-all, Example, ask, Holds, marked}
 use Rattle.laws.specs.Value.{Value, within, over, never, cap, Entry}
 use Rattle.laws.proofs.Order.{Three, three, less, same, more}
 use Rattle.laws.proofs.Cap.{cap-light, cap-heavy}
 use Rattle.laws.proofs.Parse.{stepped}
 use Rattle.laws.proofs.Outcome.{is-8, is-9, fewer}
 use Rattle.laws.proofs.Check.{every, every-at, Mem, and-left, and-right, and-in, behind, Behind}
-use Rattle.laws.proofs.Examples.{route, nothing, row, row?, row-holds, row-feasible, arrives, lone}
+use Rattle.laws.proofs.Certificate.{route, nothing, row, row?, row-holds, row-feasible, arrives, lone}
 use Rattle.laws.proofs.Solve.{table}
 
 -- the order of lists, computed
@@ -77,20 +78,6 @@ after-lex D b w ks js t = lex?-lex (flat ks) (flat js) (go (arrives (some (at D 
     go true h t = t
     go false h t = absurd h
 
--- what an enquiry gives: best KEYS WEIGHT (outcome 0), heavy with a route to show for it (outcome 9), or nothing (outcome 8)
-pub data Given : Type 0 where
-  best heavy : List Key → ℕ → Given
-  none-at-all : Given
-
-pub data Example : Type 0 where
-  ask : Net → ℕ → ℕ → ℕ → ℕ → Given → Example
-
--- THE STATEMENT
-abbrev pub Holds : Example → Type 0
-Holds (ask g S a D b (best ks w)) = Best (hop g) S a D b ks w
-Holds (ask g S a D b (heavy ks w)) = AllHeavy (hop g) S a D b
-Holds (ask g S a D b none-at-all) = NoRoute (hop g) S a D b
-
 abbrev holds? : Example → Bool
 holds? (ask (net n p ls fs) S a D b (best ks w)) =
     row? (row (net n p ls fs) S a D b (route ks w) (table (net n p ls fs))) && (leb w 4000000000 && leb (length ks) 4096)
@@ -124,44 +111,6 @@ example-holds (ask g S a D b (heavy ks w)) t =
     let h = ltb→lt 4000000000 w (and-right (row? (row g S a D b (route ks w) (table g))) (ltb 4000000000 w) t) in
     is-9 (hop g) S a D b (rw (cap-heavy w (length ks)) at (row-holds (row g S a D b (route ks w) (table g)) (and-left (row? (row g S a D b (route ks w) (table g))) (ltb 4000000000 w) t)))
 example-holds (ask g S a D b none-at-all) t = is-8 (hop g) S a D b (row-holds (row g S a D b nothing (table g)) t)
-
--- ## The table
-
-abbrev pub net1 : Net
-net1 = net 4 2 (link 10 0 1 5 ∷ link 11 1 2 5 ∷ link 12 2 3 5 ∷ []) (fun 0 conv 0 0 0 ∷ fun 1 conv 0 1 1 ∷ fun 1 wrap 0 1 2 ∷ fun 2 unwrap 0 1 3 ∷ [])
-
-abbrev pub net2 : Net
-net2 = net 4 2 (link 1 0 0 1 ∷ link 2 0 1 1 ∷ link 3 1 2 1 ∷ link 4 2 3 1 ∷ []) (fun 0 wrap 0 1 0 ∷ fun 0 wrap 1 1 0 ∷ fun 1 unwrap 1 1 0 ∷ fun 2 unwrap 0 1 0 ∷ [])
-
-abbrev pub net3 : Net
-net3 = net 2 1 (link 9 0 1 3 ∷ link 7 0 1 3 ∷ []) (fun 0 conv 0 0 0 ∷ [])
-
-abbrev pub net4 : Net
-net4 = net 3 1 (link 1 0 2 9 ∷ link 2 0 1 4 ∷ link 3 1 2 4 ∷ []) (fun 0 conv 0 0 0 ∷ fun 1 conv 0 0 0 ∷ [])
-
-abbrev pub net5 : Net
-net5 = net 3 1 (link 1 0 2 8 ∷ link 2 0 1 4 ∷ link 3 1 2 4 ∷ []) (fun 0 conv 0 0 0 ∷ fun 1 conv 0 0 0 ∷ [])
-
-abbrev pub net6 : Net
-net6 = net 3 3 (link 1 0 1 1 ∷ link 2 1 2 1 ∷ []) (fun 0 wrap 0 1 0 ∷ fun 1 unwrap 2 1 0 ∷ [])
-
-abbrev pub net7 : Net
-net7 = net 4 1 (link 1 0 1 1000000000 ∷ link 2 1 2 1000000000 ∷ link 3 2 3 1000000000 ∷ []) (fun 0 conv 0 0 1000000000 ∷ fun 1 conv 0 0 1000000000 ∷ fun 2 conv 0 0 1000000000 ∷ [])
-
-abbrev pub marked : List Example
-marked =
-    ask net1 0 0 3 0 (best (key 10 conv 0 0 ∷ key 11 wrap 0 1 ∷ key 12 unwrap 0 1 ∷ []) 20) ∷
-    ask net1 0 0 3 1 (none-at-all) ∷
-    ask net1 3 1 3 1 (best ([]) 0) ∷
-    ask net1 0 0 2 1 (best (key 10 conv 0 0 ∷ key 11 conv 0 1 ∷ []) 11) ∷
-    ask net2 0 0 3 0 (best (key 1 wrap 0 1 ∷ key 2 wrap 1 1 ∷ key 3 unwrap 1 1 ∷ key 4 unwrap 0 1 ∷ []) 4) ∷
-    ask net3 0 0 1 0 (best (key 7 conv 0 0 ∷ []) 3) ∷
-    ask net4 0 0 2 0 (best (key 2 conv 0 0 ∷ key 3 conv 0 0 ∷ []) 8) ∷
-    ask net5 0 0 2 0 (best (key 1 conv 0 0 ∷ []) 8) ∷
-    ask net6 0 0 2 2 (none-at-all) ∷
-    ask net7 0 0 2 0 (best (key 1 conv 0 0 ∷ key 2 conv 0 0 ∷ []) 4000000000) ∷
-    ask net7 0 0 3 0 (heavy (key 1 conv 0 0 ∷ key 2 conv 0 0 ∷ key 3 conv 0 0 ∷ []) 6000000000) ∷
-    []
 
 pub marked-hold : (q : Example) → Mem q marked → Holds q
 unfolding Rattle.laws.specs.Value.plus cap replay then step Rattle.paper.specs.Route.move Rattle.paper.specs.Route.act hop Rattle.paper.specs.Net.both Rattle.paper.specs.Net.charge Rattle.paper.specs.Net.across flat

@@ -1,2 +1,4 @@
 pub mod Keys
 pub mod Places
+pub mod Files
+pub mod Routes

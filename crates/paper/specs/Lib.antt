@@ -7,3 +7,4 @@ pub mod Normal
 pub mod Trace
 pub mod Rooms
 pub mod Outcome
+pub mod Examples

@@ -50,25 +50,22 @@ module _ (hop : Key → ℕ → Option (ℕ × ℕ)) (n p S a D b : ℕ) where
     pub light : w ≤ heaviest
     pub short : length ks ≤ most-steps (length Q)
 
+  -- of the step room Q and the text room T, the outcome and what it leaves in them
+  pub data Ends (Q T : List ℕ) : Outcome → List ℕ → List ℕ → Type 0 where
+    eight : NoRoute hop S a D b → Ends Q T (outcome 8 0 0 0 0) Q T
+    nine : AllHeavy hop S a D b → Ends Q T (outcome 9 0 0 0 0) Q T
+    ten : {w : ℕ} → LeastWeight hop S a D b w → MoreSteps hop S a D b w (most-steps (length Q)) → Ends Q T (outcome 10 0 0 0 0) Q T
+    eleven : {ks : List Key} {w : ℕ} → Found Q ks w → length T < length (trace hop S a ks w)
+        → Ends Q T (outcome 11 0 w (length ks) 0) (laid Q 0 (flat ks)) T
+    zero : {ks : List Key} {w : ℕ} → Found Q ks w → length (trace hop S a ks w) ≤ length T
+        → Ends Q T (outcome 0 0 w (length ks) (length (trace hop S a ks w))) (laid Q 0 (flat ks)) (laid T 0 (trace hop S a ks w))
+
+  -- of all five rooms
   pub data Answers : Rooms → Outcome → Rooms → Type 0 where
     six : {r : Rooms} → known n p S a D b ≡ false → Answers r (outcome 6 0 0 0 0) r
     seven : {r : Rooms} → known n p S a D b ≡ true → roomy (n * p) r ≡ false → Answers r (outcome 7 0 0 0 0) r
-    eight : {W C X Q T W′ C′ X′ : List ℕ} → Searched W C X Q T W′ C′ X′
-        → NoRoute hop S a D b
-        → Answers (rooms W C X Q T) (outcome 8 0 0 0 0) (rooms W′ C′ X′ Q T)
-    nine : {W C X Q T W′ C′ X′ : List ℕ} → Searched W C X Q T W′ C′ X′
-        → AllHeavy hop S a D b
-        → Answers (rooms W C X Q T) (outcome 9 0 0 0 0) (rooms W′ C′ X′ Q T)
-    ten : {W C X Q T W′ C′ X′ : List ℕ} {w : ℕ} → Searched W C X Q T W′ C′ X′
-        → LeastWeight hop S a D b w → MoreSteps hop S a D b w (most-steps (length Q))
-        → Answers (rooms W C X Q T) (outcome 10 0 0 0 0) (rooms W′ C′ X′ Q T)
-    eleven : {W C X Q T W′ C′ X′ : List ℕ} {ks : List Key} {w : ℕ} → Searched W C X Q T W′ C′ X′
-        → Found Q ks w → length T < length (trace hop S a ks w)
-        → Answers (rooms W C X Q T) (outcome 11 0 w (length ks) 0) (rooms W′ C′ X′ (laid Q 0 (flat ks)) T)
-    zero : {W C X Q T W′ C′ X′ : List ℕ} {ks : List Key} {w : ℕ} → Searched W C X Q T W′ C′ X′
-        → Found Q ks w → length (trace hop S a ks w) ≤ length T
-        → Answers (rooms W C X Q T) (outcome 0 0 w (length ks) (length (trace hop S a ks w)))
-        (rooms W′ C′ X′ (laid Q 0 (flat ks)) (laid T 0 (trace hop S a ks w)))
+    on : {W C X Q T W′ C′ X′ Q′ T′ : List ℕ} {o : Outcome} → Searched W C X Q T W′ C′ X′ → Ends Q T o Q′ T′
+        → Answers (rooms W C X Q T) o (rooms W′ C′ X′ Q′ T′)
 
 -- ## The route enquiry of a file: 1 to 5 first, each with all rooms as before the call
 

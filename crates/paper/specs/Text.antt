@@ -4,6 +4,8 @@ use mathlib.Core.Bool.{Bool, true, false, not, cond, _&&_, _||_}
 use mathlib.Core.List.{List, [], _∷_, _++_}
 use mathlib.Core.Option.{Option, none, some}
 use Prim.Native.Nat.{ℕ, zero, suc, _+_, _*_, _-_, _/_, _%_}
+use Prim.Native.Char.{code}
+use Prim.Native.String.{String, [] as none-left, _∷_ as front}
 use lib.Dec.{eqb, leb, ltb}
 
 -- ## Lines
@@ -84,6 +86,11 @@ written w fs = w ++ tabbed fs ++ (10 ∷ [])
 
 -- ## Words
 
+-- the bytes of a text
+abbrev pub bytes : String → List ℕ
+bytes none-left = []
+bytes (front c s) = code c ∷ bytes s
+
 unfoldable pub same : List ℕ → List ℕ → Bool
 same [] [] = true
 same [] (c ∷ cs) = false
@@ -91,25 +98,25 @@ same (b ∷ bs) [] = false
 same (b ∷ bs) (c ∷ cs) = eqb b c && same bs cs
 
 unfoldable pub net-word : List ℕ
-net-word = 110 ∷ 101 ∷ 116 ∷ []
+net-word = bytes "net"
 
 unfoldable pub link-word : List ℕ
-link-word = 108 ∷ 105 ∷ 110 ∷ 107 ∷ []
+link-word = bytes "link"
 
 unfoldable pub fun-word : List ℕ
-fun-word = 102 ∷ 117 ∷ 110 ∷ []
+fun-word = bytes "fun"
 
 unfoldable pub conv-word : List ℕ
-conv-word = 99 ∷ 111 ∷ 110 ∷ 118 ∷ []
+conv-word = bytes "conv"
 
 unfoldable pub wrap-word : List ℕ
-wrap-word = 119 ∷ 114 ∷ 97 ∷ 112 ∷ []
+wrap-word = bytes "wrap"
 
 unfoldable pub unwrap-word : List ℕ
-unwrap-word = 117 ∷ 110 ∷ 119 ∷ 114 ∷ 97 ∷ 112 ∷ []
+unwrap-word = bytes "unwrap"
 
 unfoldable pub path-word : List ℕ
-path-word = 112 ∷ 97 ∷ 116 ∷ 104 ∷ []
+path-word = bytes "path"
 
 unfoldable pub step-word : List ℕ
-step-word = 115 ∷ 116 ∷ 101 ∷ 112 ∷ []
+step-word = bytes "step"

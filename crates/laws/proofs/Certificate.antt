@@ -1,7 +1,8 @@
--- The marked examples: one table, and one statement about each of its rows, proved by one computed test.
+-- A table of entries, judged: one computed test says whether it is closed, and whether an enquiry's answer stands in it.
+-- Main result: `row-holds`, the answer is the entry of its pair.
 -- Assumes nothing.
 use Prim.Native.Nat.{ℕ, zero, suc, _+_, _<_, _≤_, min}
-use mathlib.Core.Path.{_≡_, refl, sym, ap, _∙_}
+use mathlib.Core.Path.{_≡_, refl}
 use mathlib.Core.Bool.{Bool, true, false, cond, _&&_}
 use mathlib.Core.List.{List, [], _∷_}
 use mathlib.Core.Option.{Option, none, some}
@@ -13,7 +14,7 @@ use Rattle.paper.specs.Route.{At, at, replay, Feasible}
 use Rattle.laws.specs.Value.{Value, within, over, never, cap, Le, Entry}
 use Rattle.laws.proofs.Cap.{le-trans-v}
 use Rattle.laws.proofs.Fixpoint.{lower}
-use Rattle.laws.proofs.Check.{every, every-at, Mem, le?, le?-le, relaxed?, relaxed, valid, and-left, and-right}
+use Rattle.laws.proofs.Check.{le?, le?-le, relaxed?, relaxed, valid, and-left, and-right}
 
 -- a certificate: an entry of the closed table that is neither `never` nor the stay at a place
 pub data Cell : Type 0 where
@@ -92,60 +93,3 @@ pub row-feasible : (n p : ℕ) (ls : List Link) (fs : List Fun) (S a D b : ℕ) 
     → T (row? (row (net n p ls fs) S a D b (route ks w) cs)) → Feasible (hop (net n p ls fs)) S a D b ks w
 row-feasible n p ls fs S a D b ks w cs t =
     record { runs = arrives-eq (replay (hop (net n p ls fs)) ks (at S (a ∷ []) 0)) D b w (and-right (relaxed? n p ls fs (look cs) && (ltb S n && ltb a p) && le? (counts (route ks w)) (look cs S a D b)) (answers (net n p ls fs) S a D b (route ks w)) t) }
-
--- ## The rows
-
-abbrev net1 : Net
-net1 = net 4 2 (link 10 0 1 5 ∷ link 11 1 2 5 ∷ link 12 2 3 5 ∷ []) (fun 0 conv 0 0 0 ∷ fun 1 conv 0 1 1 ∷ fun 1 wrap 0 1 2 ∷ fun 2 unwrap 0 1 3 ∷ [])
-
-abbrev net2 : Net
-net2 = net 4 2 (link 1 0 0 1 ∷ link 2 0 1 1 ∷ link 3 1 2 1 ∷ link 4 2 3 1 ∷ []) (fun 0 wrap 0 1 0 ∷ fun 0 wrap 1 1 0 ∷ fun 1 unwrap 1 1 0 ∷ fun 2 unwrap 0 1 0 ∷ [])
-
-abbrev net3 : Net
-net3 = net 2 1 (link 9 0 1 3 ∷ link 7 0 1 3 ∷ []) (fun 0 conv 0 0 0 ∷ [])
-
-abbrev net4 : Net
-net4 = net 3 1 (link 1 0 2 9 ∷ link 2 0 1 4 ∷ link 3 1 2 4 ∷ []) (fun 0 conv 0 0 0 ∷ fun 1 conv 0 0 0 ∷ [])
-
-abbrev net5 : Net
-net5 = net 3 1 (link 1 0 2 8 ∷ link 2 0 1 4 ∷ link 3 1 2 4 ∷ []) (fun 0 conv 0 0 0 ∷ fun 1 conv 0 0 0 ∷ [])
-
-abbrev net6 : Net
-net6 = net 3 3 (link 1 0 1 1 ∷ link 2 1 2 1 ∷ []) (fun 0 wrap 0 1 0 ∷ fun 1 unwrap 2 1 0 ∷ [])
-
-abbrev net7 : Net
-net7 = net 4 1 (link 1 0 1 1000000000 ∷ link 2 1 2 1000000000 ∷ link 3 2 3 1000000000 ∷ []) (fun 0 conv 0 0 1000000000 ∷ fun 1 conv 0 0 1000000000 ∷ fun 2 conv 0 0 1000000000 ∷ [])
-
-abbrev pub rows : List Row
-rows =
-    row net1 0 0 3 0 (route (key 10 conv 0 0 ∷ key 11 wrap 0 1 ∷ key 12 unwrap 0 1 ∷ []) 20)
-    (cell 0 0 1 0 (within 5 1) ∷ cell 0 0 2 1 (within 11 2) ∷ cell 0 0 3 0 (within 20 3) ∷ cell 1 0 2 1 (within 6 1) ∷ cell 1 0 3 0 (within 15 2) ∷ []) ∷
-    row net1 0 0 3 1 (nothing)
-    (cell 0 0 1 0 (within 5 1) ∷ cell 0 0 2 1 (within 11 2) ∷ cell 0 0 3 0 (within 20 3) ∷ cell 1 0 2 1 (within 6 1) ∷ cell 1 0 3 0 (within 15 2) ∷ []) ∷
-    row net1 3 1 3 1 (route ([]) 0)
-    (cell 0 0 1 0 (within 5 1) ∷ cell 0 0 2 1 (within 11 2) ∷ cell 0 0 3 0 (within 20 3) ∷ cell 1 0 2 1 (within 6 1) ∷ cell 1 0 3 0 (within 15 2) ∷ []) ∷
-    row net1 0 0 2 1 (route (key 10 conv 0 0 ∷ key 11 conv 0 1 ∷ []) 11)
-    (cell 0 0 1 0 (within 5 1) ∷ cell 0 0 2 1 (within 11 2) ∷ cell 0 0 3 0 (within 20 3) ∷ cell 1 0 2 1 (within 6 1) ∷ cell 1 0 3 0 (within 15 2) ∷ []) ∷
-    row net2 0 0 3 0 (route (key 1 wrap 0 1 ∷ key 2 wrap 1 1 ∷ key 3 unwrap 1 1 ∷ key 4 unwrap 0 1 ∷ []) 4)
-    (cell 0 0 3 0 (within 4 4) ∷ cell 0 1 2 1 (within 2 2) ∷ []) ∷
-    row net3 0 0 1 0 (route (key 7 conv 0 0 ∷ []) 3)
-    (cell 0 0 1 0 (within 3 1) ∷ []) ∷
-    row net4 0 0 2 0 (route (key 2 conv 0 0 ∷ key 3 conv 0 0 ∷ []) 8)
-    (cell 0 0 1 0 (within 4 1) ∷ cell 0 0 2 0 (within 8 2) ∷ cell 1 0 2 0 (within 4 1) ∷ []) ∷
-    row net5 0 0 2 0 (route (key 1 conv 0 0 ∷ []) 8)
-    (cell 0 0 1 0 (within 4 1) ∷ cell 0 0 2 0 (within 8 1) ∷ cell 1 0 2 0 (within 4 1) ∷ []) ∷
-    row net6 0 0 2 2 (nothing)
-    ([]) ∷
-    row net7 0 0 2 0 (route (key 1 conv 0 0 ∷ key 2 conv 0 0 ∷ []) 4000000000)
-    (cell 0 0 1 0 (within 2000000000 1) ∷ cell 0 0 2 0 (within 4000000000 2) ∷ cell 0 0 3 0 (over) ∷ cell 1 0 2 0 (within 2000000000 1) ∷ cell 1 0 3 0 (within 4000000000 2) ∷ cell 2 0 3 0 (within 2000000000 1) ∷ []) ∷
-    row net7 0 0 3 0 (route (key 1 conv 0 0 ∷ key 2 conv 0 0 ∷ key 3 conv 0 0 ∷ []) 6000000000)
-    (cell 0 0 1 0 (within 2000000000 1) ∷ cell 0 0 2 0 (within 4000000000 2) ∷ cell 0 0 3 0 (over) ∷ cell 1 0 2 0 (within 2000000000 1) ∷ cell 1 0 3 0 (within 4000000000 2) ∷ cell 2 0 3 0 (within 2000000000 1) ∷ []) ∷
-    []
-
-rows-pass : T (every row? rows)
-unfolding cap Rattle.laws.specs.Value.plus replay Rattle.paper.specs.Route.then Rattle.paper.specs.Route.step Rattle.paper.specs.Route.move Rattle.paper.specs.Route.act hop Rattle.paper.specs.Net.both Rattle.paper.specs.Net.charge Rattle.paper.specs.Net.across
-rows-pass = tt
-
--- every marked example holds
-pub examples : (r : Row) → Mem r rows → Holds r
-examples r m = row-holds r (every-at row? r rows rows-pass m)
