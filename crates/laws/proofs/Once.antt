@@ -69,17 +69,24 @@ paired n p i h =
     let u = split n p (i / (n * p)) (o .0) in
     let v = split n p (i % (n * p)) (o .1) in
     record {
-      S = i / (n * p) / p; a = i / (n * p) % p; D = i % (n * p) / p; b = i % (n * p) % p;
-      S-below = u .0; a-below = u .1; D-below = v .0; b-below = v .1;
+      S = i / (n * p) / p;
+      a = i / (n * p) % p;
+      D = i % (n * p) / p;
+      b = i % (n * p) % p;
+      S-below = u .0;
+      a-below = u .1;
+      D-below = v .0;
+      b-below = v .1;
       is = rw (u .2, v .2) (o .2);
     }
 
 module _ (hop : Key → ℕ → Option (ℕ × ℕ)) (n p : ℕ) where
   pub tabled-once : (W C X W′ C′ X′ W″ C″ X″ : List ℕ) → Tabled hop n p W C X W′ C′ X′ → Tabled hop n p W C X W″ C″ X″ → (W′ ≡ W″) × (C′ ≡ C″) × (X′ ≡ X″)
-  tabled-once W C X W′ C′ X′ W″ C″ X″ s t =
-      (ext-getD 0 W′ W″ (s .weights-length ∙ sym (t .weights-length)) (λ i h. both i (decLt i (n * p * (n * p))) .0),
-        ext-getD 0 C′ C″ (s .counts-length ∙ sym (t .counts-length)) (λ i h. both i (decLt i (n * p * (n * p))) .1),
-        s .choices ∙ sym (t .choices))
+  tabled-once W C X W′ C′ X′ W″ C″ X″ s t = (
+    ext-getD 0 W′ W″ (s .weights-length ∙ sym (t .weights-length)) (λ i h. both i (decLt i (n * p * (n * p))) .0),
+    ext-getD 0 C′ C″ (s .counts-length ∙ sym (t .counts-length)) (λ i h. both i (decLt i (n * p * (n * p))) .1),
+    s .choices ∙ sym (t .choices),
+  )
     where
       both : (i : ℕ) → Dec (i < n * p * (n * p)) → (getD W′ i 0 ≡ getD W″ i 0) × (getD C′ i 0 ≡ getD C″ i 0)
       both i (yes h) =
@@ -123,7 +130,7 @@ module _ (hop : Key → ℕ → Option (ℕ × ℕ)) (n p S a D b : ℕ) where
 
   same-text : {Q : List ℕ} {ks js : List Key} {w v : ℕ} (T : List ℕ) → Found hop n p S a D b Q ks w → Found hop n p S a D b Q js v
       → (outcome 0 0 w (length ks) (length (trace hop S a ks w)) ≡ outcome 0 0 v (length js) (length (trace hop S a js v))) × (laid Q 0 (flat ks) ≡ laid Q 0 (flat js))
-          × (laid T 0 (trace hop S a ks w) ≡ laid T 0 (trace hop S a js v))
+      × (laid T 0 (trace hop S a ks w) ≡ laid T 0 (trace hop S a js v))
   same-text T f g = let e = same-keys f g in rw (e .0, e .1) (refl, refl, refl)
 
   pub ends-once : {Q T Q′ T′ Q″ T″ : List ℕ} {o u : Outcome} → Ends hop n p S a D b Q T o Q′ T′ → Ends hop n p S a D b Q T u Q″ T″ → (o ≡ u) × (Q′ ≡ Q″) × (T′ ≡ T″)

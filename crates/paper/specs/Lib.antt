@@ -7,4 +7,5 @@ pub mod Normal
 pub mod Trace
 pub mod Rooms
 pub mod Outcome
+pub mod Program
 pub mod Examples
