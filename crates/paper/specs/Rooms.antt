@@ -46,7 +46,7 @@ module _ (hop : Key → ℕ → Option (ℕ × ℕ)) (S a D b : ℕ) where
     heavy : AllHeavy → Entries over-mark 0
     nowhere : NoRoute → Entries never-mark 0
 
--- n places: the weight, count and choice rooms W, C, X have become W′, C′, X′
+-- the weight, count and choice rooms W, C, X have become W′, C′, X′, for N = n × p places
 pub record Tabled (hop : Key → ℕ → Option (ℕ × ℕ)) (n p : ℕ) (W C X W′ C′ X′ : List ℕ) : Type 0 where
   pub pairs : (S a D b : ℕ) → S < n → a < p → D < n → b < p
       → Entries hop S a D b (getD W′ (place p S a * (n * p) + place p D b) 0) (getD C′ (place p S a * (n * p) + place p D b) 0)
