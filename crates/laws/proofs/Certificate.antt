@@ -1,7 +1,7 @@
 -- A table of entries, judged: one computed test says whether it is closed, and whether an enquiry's answer stands in it.
 -- Main result: `row-holds`, the answer is the entry of its pair.
 -- Assumes nothing.
-use Prim.Native.Nat.{ℕ, zero, suc, _+_, _<_, _≤_, min}
+use Prim.Native.Nat.{ℕ}
 use mathlib.Core.Path.{_≡_, refl}
 use mathlib.Core.Bool.{Bool, true, false, cond, _&&_}
 use mathlib.Core.List.{List, [], _∷_}
@@ -9,9 +9,9 @@ use mathlib.Core.Option.{Option, none, some}
 use mathlib.Core.Logic.{_⊎_, inl, inr}
 use lib.Dec.{eqb, ltb, eqb→eq, ltb→lt, T}
 use lib.ListN.{length}
-use Rattle.paper.specs.Net.{Kind, conv, wrap, unwrap, Link, link, Fun, fun, Net, net, Key, key, hop}
+use Rattle.paper.specs.Net.{Link, Fun, Net, net, Key, hop}
 use Rattle.paper.specs.Route.{At, at, replay, Feasible}
-use Rattle.laws.specs.Value.{Value, within, over, never, cap, Le, Entry}
+use Rattle.laws.specs.Value.{Value, within, never, cap, Entry}
 use Rattle.laws.proofs.Cap.{le-trans-v}
 use Rattle.laws.proofs.Fixpoint.{lower}
 use Rattle.laws.proofs.Check.{le?, le?-le, relaxed?, relaxed, valid, and-left, and-right}

@@ -1,7 +1,7 @@
 -- A computed test that no relaxation lowers a table, for a network that is written out.
 -- Assumes nothing.
-use Prim.Native.Nat.{ℕ, zero, suc, _+_, _<_, _≤_, min}
-use mathlib.Core.Path.{_≡_, refl, sym, ap, _∙_, subst}
+use Prim.Native.Nat.{ℕ, zero, suc, _+_, _<_, _≤_}
+use mathlib.Core.Path.{_≡_, refl, sym, ap, subst}
 use mathlib.Core.Bool.{Bool, true, false, cond, _&&_, _||_}
 use mathlib.Core.List.{List, [], _∷_}
 use mathlib.Core.Option.{Option, none, some, Option·none-ne-some, Option·some-injective}
@@ -10,7 +10,7 @@ use native.Mathlib.Omega.{arith}
 use native.Mathlib.Nat.{not-suc-le-zero}
 use native.Mathlib.Decide.{decLt}
 use lib.Dec.{leb, ltb, eqb, leb→le, ltb→lt, eqb→eq, eqb-refl, T}
-use Rattle.paper.specs.Net.{Kind, conv, wrap, unwrap, code, Link, link, Fun, fun, Net, net, Key, key, across, charge, both, hop}
+use Rattle.paper.specs.Net.{Kind, conv, wrap, unwrap, code, Link, link, Fun, fun, net, key, across, charge, both, hop}
 use Rattle.laws.specs.Value.{Value, within, over, never, cap, Le, plus}
 use Rattle.laws.proofs.Fixpoint.{Valid, Relaxed}
 

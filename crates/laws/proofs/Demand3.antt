@@ -1,24 +1,24 @@
 -- Demand 3, of files: the normal file of an accepted file, and files whose lines stand in another order.
 -- Assumes nothing.
 use mathlib.Core.Path.{_≡_, refl, sym, ap, _∙_, subst}
-use mathlib.Core.Bool.{Bool, true, false, not, cond, true≢false, _&&_}
+use mathlib.Core.Bool.{Bool, true, false}
 use mathlib.Core.List.{List, [], _∷_, _++_, map, append-assoc, append-nil}
 use mathlib.Core.Logic.{_↔_}
-use Prim.Native.Nat.{ℕ, zero, suc, _+_, _-_, _/_, _%_, _<_, _≤_}
+use Prim.Native.Nat.{ℕ, zero, suc, _+_, _/_, _%_, _≤_}
 use native.Mathlib.Omega.{arith}
-use lib.Dec.{eqb, leb, ltb}
-use lib.ListN.{length, length-append}
+use lib.Dec.{eqb, ltb}
+use lib.ListN.{length}
 use borrow.Author.Tests.{ne-eqb, ltb-false, le-ltb}
 use Rattle.paper.specs.Net.{Kind, conv, wrap, unwrap, Link, link, Fun, fun, Net, net}
 use Rattle.paper.specs.Text.{Line, ended, cut, lines, linesOn, fields, decimalTo, decimal, net-word, link-word, fun-word, conv-word, wrap-word, unwrap-word, tabbed, written}
-use Rattle.paper.specs.File.{linkKey, funKey, netFits, Shape, misshapen, netLine, linkLine, funLine, shaped, shape, Kept, bad, good, header, put, onward, fromTop, Judged, refused, accepted, judge}
+use Rattle.paper.specs.File.{linkKey, funKey, netFits, Shape, misshapen, netLine, linkLine, funLine, shaped, shape, bad, good, header, onward, fromTop, Judged, refused, accepted, judge}
 use Rattle.paper.specs.Normal.{kindWord, linkText, funText, netText, texts, normal}
-use Rattle.laws.specs.Sets.{Mem, Alike, Perm, none, keep, swap, both}
+use Rattle.laws.specs.Sets.{Alike, Perm, none, keep, swap, both}
 use Rattle.laws.proofs.Before.{Test, holds, fails, test}
-use Rattle.laws.proofs.Insert.{perm-refl, perm-sym, Sorted, sorted-alike}
+use Rattle.laws.proofs.Insert.{perm-sym, Sorted, sorted-alike}
 use Rattle.laws.proofs.Spelling.{free, free-append, lines-text}
 use Rattle.laws.proofs.Shapes.{linkBody, funBody, netBody, net-bytes}
-use Rattle.laws.proofs.Fold.{went, Went, any-order, body, head, Sound, SoundAt, Ran, ran}
+use Rattle.laws.proofs.Fold.{went, any-order, body, head, Sound, ran}
 
 -- ## The text of a network, line by line
 

@@ -1,22 +1,21 @@
 -- A route of least weight and then fewest steps has at most N² tunnels open at once, N the number of places; and any route half as many as it has steps.
 -- Assumes nothing.
-use Prim.Native.Nat.{ℕ, zero, suc, _+_, _*_, _<_, _≤_, max}
-use mathlib.Core.Path.{_≡_, refl, sym, ap, _∙_, subst}
+use Prim.Native.Nat.{ℕ, suc, _+_, _*_, _<_, _≤_, max}
+use mathlib.Core.Path.{_≡_, refl, sym, ap, _∙_}
 use mathlib.Core.List.{List, [], _∷_, _++_, append-assoc, append-nil}
-use mathlib.Core.Option.{Option, none, some}
+use mathlib.Core.Option.{Option, some}
 use mathlib.Core.Logic.{_⊎_, inl, inr}
 use native.Mathlib.Omega.{arith}
 use native.Mathlib.Nat.{mul-le-mul-right, le-refl, add-zero, add-assoc}
 use native.Mathlib.Decide.{decLe}
 use lib.ListN.{length, length-append}
-use Rattle.paper.specs.Net.{Kind, conv, wrap, unwrap, Key, key}
-use Rattle.paper.specs.Route.{At, at, step, Feasible}
+use Rattle.paper.specs.Net.{conv, wrap, unwrap, Key, key}
+use Rattle.paper.specs.Route.{at, step, Feasible}
 use Rattle.laws.specs.Level.{Level, stay, carry, tunnel, keys, weight}
 use Rattle.laws.specs.Peak.{height, onward, peak}
 use Rattle.laws.proofs.Order.{Three, three, less, same, more}
 use Rattle.laws.proofs.Parse.{parse, sound-feasible, eqb-same}
 use Rattle.laws.proofs.Fixpoint.{Valid, ends}
-use Rattle.laws.proofs.Check.{Mem}
 use Rattle.laws.proofs.Pigeon.{All, Distinct, all-map, all-mem, pigeon}
 
 -- two numbers below p, each behind a multiple of p: the one is the other only if both parts are

@@ -1,18 +1,17 @@
 -- A table whose entries are attained, and which no relaxation lowers, holds at every pair of places the least of what the routes between them count as.
 -- Assumes nothing.
-use Prim.Native.Nat.{ℕ, zero, suc, _+_, _<_, _≤_, min}
-use mathlib.Core.Path.{_≡_, refl, sym, ap, _∙_}
-use mathlib.Core.List.{List, [], _∷_, _++_}
-use mathlib.Core.Option.{Option, none, some}
-use mathlib.Core.Logic.{_⊎_, inl, inr, _↔_}
-use native.Mathlib.Omega.{arith}
+use Prim.Native.Nat.{ℕ, suc, _+_, _<_}
+use mathlib.Core.Path.{_≡_}
+use mathlib.Core.List.{List, _∷_}
+use mathlib.Core.Option.{Option, some}
+use mathlib.Core.Logic.{_⊎_, inl, inr}
 use lib.ListN.{length, length-append}
 use Rattle.paper.specs.Net.{Kind, conv, wrap, unwrap, Key, key}
 use Rattle.paper.specs.Route.{Feasible}
 use Rattle.laws.specs.Level.{Level, stay, carry, tunnel, keys, weight}
-use Rattle.laws.specs.Value.{Value, within, over, never, cap, Le, plus, Entry}
+use Rattle.laws.specs.Value.{Value, never, cap, Le, plus, Entry}
 use Rattle.laws.proofs.Parse.{parse, sound-feasible}
-use Rattle.laws.proofs.Cap.{le-refl-v, le-trans-v, le-antisym-v, cap-light, cap-heavy, cap-plus, join, step-join, Tested, holds, fails, tested}
+use Rattle.laws.proofs.Cap.{le-trans-v, join, step-join, holds}
 
 module _ (hop : Key → ℕ → Option (ℕ × ℕ)) (n p : ℕ) where
   -- every step leads to a place: node below n, protocols below p

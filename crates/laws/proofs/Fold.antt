@@ -1,21 +1,20 @@
 -- The fold over the lines: in whatever order the lines below the first stand, it keeps the same network.
 -- Assumes nothing.
-use mathlib.Core.Path.{_≡_, refl, sym, ap, _∙_, subst}
-use mathlib.Core.Bool.{Bool, true, false, not, cond, true≢false}
-use mathlib.Core.List.{List, [], _∷_, _++_, map, append-assoc, append-nil}
-use Prim.Native.Nat.{ℕ, zero, suc, _+_, _<_, _≤_}
+use mathlib.Core.Path.{_≡_, refl, sym, _∙_, subst}
+use mathlib.Core.Bool.{true, false, not}
+use mathlib.Core.List.{List, [], _∷_, _++_, map}
+use Prim.Native.Nat.{ℕ, suc, _+_, _<_}
 use native.Mathlib.Omega.{arith}
-use lib.Dec.{eqb, leb, ltb}
+use lib.Dec.{leb}
 use lib.ListN.{length}
 use borrow.Author.Tests.{leb-false, lt-leb}
-use Rattle.paper.specs.Net.{Link, link, Fun, fun, Net, net}
+use Rattle.paper.specs.Net.{Link, Fun, Net, net}
 use Rattle.paper.specs.Text.{Line, ended, cut, fields}
-use Rattle.paper.specs.File.{linkKey, funKey, netFits, linkFits, funFits, insert, given, Shape, misshapen, netLine, linkLine, funLine, shaped, shape, Kept, bad, good, header, put, onward, Judged, refused, accepted}
-use Rattle.laws.specs.Sets.{Mem, Alike, Perm, none, keep, swap, both}
+use Rattle.paper.specs.File.{linkKey, funKey, netFits, linkFits, funFits, insert, given, Shape, misshapen, netLine, linkLine, funLine, shaped, shape, Kept, bad, good, header, put, onward, refused, accepted}
+use Rattle.laws.specs.Sets.{Perm, none, keep, swap, both}
 use Rattle.laws.proofs.Before.{Test, holds, fails, test, not-true}
-use Rattle.laws.proofs.Insert.{perm-refl, perm-sym, perm-middle, perm-front, perm-back, length-insert, insert-perm, Swapped, swapped, Sorted, sorted-insert}
-use Rattle.laws.proofs.Spelling.{not-eq}
-use Rattle.laws.proofs.Shapes.{linkBody, funBody, netBody, net-bytes, link-bytes, fun-bytes, net-range}
+use Rattle.laws.proofs.Insert.{perm-refl, perm-middle, perm-front, perm-back, length-insert, insert-perm, swapped, Sorted, sorted-insert}
+use Rattle.laws.proofs.Shapes.{linkBody, funBody, netBody, link-bytes, fun-bytes, net-range}
 
 -- ## One line
 

@@ -1,11 +1,11 @@
 -- Laying one text over a room after another: what every writer's proof is made of. Assumes nothing.
-use mathlib.Core.Path.{_≡_, refl, sym, ap, _∙_}
+use mathlib.Core.Path.{_≡_, refl, sym, _∙_}
 use mathlib.Core.List.{List, [], _∷_, _++_}
 use Prim.Native.Nat.{ℕ, zero, suc, _+_, _<_, _≤_}
-use native.Mathlib.Nat.{add-zero, add-suc, suc-add}
+use native.Mathlib.Nat.{add-zero}
 use native.Mathlib.Omega.{arith}
 use lib.ListN.{length, getD, set, length-set}
-use lib.Seq.{sets, length-sets, getD-set-same, getD-set-other}
+use lib.Seq.{length-sets, getD-set-same, getD-set-other}
 use Rattle.paper.specs.Rooms.{laid}
 
 pub laid-none : (d : List ℕ) (i : ℕ) → laid d i [] ≡ d

@@ -1,14 +1,13 @@
 -- In a network whose link numbers and functions each occur once, a function and a link that leave one node make a step, of their weights.
 -- Assumes nothing.
-use Prim.Native.Nat.{ℕ, zero, suc, _+_}
-use mathlib.Core.Path.{_≡_, refl, sym, ap, _∙_}
+use Prim.Native.Nat.{ℕ, _+_}
+use mathlib.Core.Path.{_≡_}
 use mathlib.Core.Bool.{Bool, true, false, cond, _&&_}
 use mathlib.Core.List.{List, [], _∷_}
-use mathlib.Core.Option.{Option, none, some}
-use mathlib.Core.Logic.{_⊎_, inl, inr}
-use native.Mathlib.Omega.{arith}
+use mathlib.Core.Option.{Option, some}
+use mathlib.Core.Logic.{inl, inr}
 use lib.Dec.{eqb, eqb→eq, T}
-use Rattle.paper.specs.Net.{Kind, conv, wrap, unwrap, code, Link, link, Fun, fun, Net, net, Key, key, across, charge, both, hop}
+use Rattle.paper.specs.Net.{Kind, code, Link, link, Fun, fun, net, key, across, charge, both, hop}
 use Rattle.laws.proofs.Parse.{eqb-same}
 use Rattle.laws.proofs.Check.{Mem, code-inj}
 

@@ -2,24 +2,24 @@
 -- The closed table of each network is computed by Solve and judged by Certificate; first-by-key by trying every route of as many steps.
 -- Assumes nothing.
 use Prim.Native.Nat.{ℕ, zero, suc, _+_, _<_, _≤_, min}
-use mathlib.Core.Path.{_≡_, refl, sym, ap, _∙_}
-use mathlib.Core.Bool.{Bool, true, false, cond, not, _&&_, _||_}
+use mathlib.Core.Path.{_≡_, sym}
+use mathlib.Core.Bool.{Bool, true, false, not, _&&_, _||_}
 use mathlib.Core.List.{List, [], _∷_}
-use mathlib.Core.Option.{Option, none, some, Option·none-ne-some, Option·some-injective}
+use mathlib.Core.Option.{Option, none, some, Option·some-injective}
 use mathlib.Core.Logic.{_⊎_, inl, inr}
 use native.Mathlib.Omega.{arith}
 use lib.Dec.{eqb, ltb, leb, leb→le, ltb→lt, eqb→eq, eqb-refl, T}
 use lib.ListN.{length}
-use Rattle.paper.specs.Net.{Kind, conv, wrap, unwrap, Link, link, Fun, fun, Net, net, Key, key, hop}
+use Rattle.paper.specs.Net.{Link, link, Fun, fun, Net, net, Key, key, hop}
 use Rattle.paper.specs.Route.{At, at, then, step, replay, Feasible, Lex, flat, rank, Best}
-use Rattle.paper.specs.Examples.{Given, best, heavy, none-at-all, Example, ask, Holds, marked}
-use Rattle.laws.specs.Value.{Value, within, over, never, cap, Entry}
+use Rattle.paper.specs.Examples.{best, heavy, none-at-all, Example, ask, Holds, marked}
+use Rattle.laws.specs.Value.{Value, cap, Entry}
 use Rattle.laws.proofs.Order.{Three, three, less, same, more}
 use Rattle.laws.proofs.Cap.{cap-light, cap-heavy}
 use Rattle.laws.proofs.Parse.{stepped}
 use Rattle.laws.proofs.Outcome.{is-8, is-9, fewer}
-use Rattle.laws.proofs.Check.{every, every-at, Mem, and-left, and-right, and-in, behind, Behind}
-use Rattle.laws.proofs.Certificate.{route, nothing, row, row?, row-holds, row-feasible, arrives, lone}
+use Rattle.laws.proofs.Check.{every, every-at, Mem, and-left, and-right, and-in, behind}
+use Rattle.laws.proofs.Certificate.{route, nothing, row, row?, row-holds, row-feasible, arrives}
 use Rattle.laws.proofs.Solve.{table}
 
 -- the order of lists, computed

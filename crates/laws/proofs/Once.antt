@@ -1,10 +1,10 @@
 -- An enquiry has one outcome: no second number, line, weight, steps, length or entry of a room fits the outcome table.
 -- Main results: `entries-once` (a pair's two numbers), `tabled-once` (the tables), `answers-once`, `routed-once` (the table's rows).
 -- Assumes nothing.
-use Prim.Native.Nat.{ℕ, zero, suc, _+_, _*_, _/_, _%_, _<_, _≤_, min}
-use mathlib.Core.Path.{_≡_, refl, sym, ap, _∙_}
-use mathlib.Core.Bool.{Bool, true, false, true≢false}
-use mathlib.Core.List.{List, [], _∷_}
+use Prim.Native.Nat.{ℕ, zero, suc, _+_, _*_, _/_, _%_, _<_, _≤_}
+use mathlib.Core.Path.{_≡_, refl, sym, _∙_}
+use mathlib.Core.Bool.{true, false, true≢false}
+use mathlib.Core.List.{List, _∷_}
 use mathlib.Core.Logic.{_⊎_, inl, inr}
 use mathlib.Core.Option.{Option}
 use native.Mathlib.Omega.{arith}
@@ -14,10 +14,10 @@ use lib.ListN.{length, getD}
 use lib.Seq.{ext-getD}
 use Rattle.paper.specs.Net.{Link, Fun, Net, net, Key, hop, place}
 use Rattle.paper.specs.Route.{Feasible, Best, Lex, rank, flat}
-use Rattle.paper.specs.File.{Judged, refused, accepted, judge}
+use Rattle.paper.specs.File.{refused, accepted}
 use Rattle.paper.specs.Trace.{trace}
-use Rattle.paper.specs.Rooms.{laid, NoRoute, AllHeavy, LeastWeight, FewestSteps, MoreSteps, Entries, least, long, heavy, nowhere, Tabled}
-use Rattle.paper.specs.Outcome.{Outcome, outcome, Rooms, rooms, most-steps, known, roomy, Searched, Found, Ends, eight, nine, ten, eleven, zero as found, Answers, six, seven, on, Routed, bad-file, good-file}
+use Rattle.paper.specs.Rooms.{laid, LeastWeight, FewestSteps, MoreSteps, Entries, least, long, heavy, nowhere, Tabled}
+use Rattle.paper.specs.Outcome.{Outcome, outcome, Rooms, most-steps, Found, Ends, eight, nine, ten, eleven, zero as found, Answers, six, seven, on, Routed, bad-file, good-file}
 use Rattle.laws.proofs.Order.{best-unique}
 use Rattle.laws.proofs.Unique.{not-8-9, not-8-light, not-9-light, same-least, not-10-0}
 

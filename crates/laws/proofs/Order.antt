@@ -1,15 +1,14 @@
 -- The order of routes is total and antisymmetric, so an enquiry has at most one best route.
 -- Assumes nothing.
-use Prim.Native.Nat.{ℕ, zero, suc, _+_, _<_, _≤_}
-use mathlib.Core.Path.{_≡_, refl, sym, ap, _∙_}
+use Prim.Native.Nat.{ℕ, _<_}
+use mathlib.Core.Path.{_≡_, refl, sym}
 use mathlib.Core.List.{List, [], _∷_}
-use mathlib.Core.Option.{Option, none, some}
+use mathlib.Core.Option.{Option}
 use mathlib.Core.Logic.{_⊎_, inl, inr}
 use native.Mathlib.Omega.{arith}
 use native.Mathlib.Decide.{decLt}
-use lib.ListN.{length}
 use Rattle.paper.specs.Net.{Kind, conv, wrap, unwrap, code, Key, key}
-use Rattle.paper.specs.Route.{Lex, flat, rank, Best, Feasible}
+use Rattle.paper.specs.Route.{Lex, flat, rank, Best}
 
 pub lex-refl : (a : List ℕ) → Lex a a
 unfolding Lex

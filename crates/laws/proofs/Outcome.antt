@@ -1,22 +1,21 @@
 -- What the entry of a pair says of its routes: `never` is 8, `over` is 9, and `within w s` is 10 or a route, by the steps.
 -- Main result: `entries`, the paper's two numbers of a pair.
 -- Assumes nothing.
-use Prim.Native.Nat.{ℕ, zero, suc, _+_, _<_, _≤_, min}
-use mathlib.Core.Path.{_≡_, refl, sym, ap, _∙_}
+use Prim.Native.Nat.{ℕ, _<_, _≤_, min}
+use mathlib.Core.Path.{_≡_}
 use mathlib.Core.Bool.{Bool, true, false, cond}
-use mathlib.Core.List.{List, [], _∷_}
-use mathlib.Core.Option.{Option, none, some}
+use mathlib.Core.List.{List}
+use mathlib.Core.Option.{Option}
 use mathlib.Core.Logic.{_⊎_, inl, inr}
 use native.Mathlib.Omega.{arith}
 use native.Mathlib.Decide.{decLe}
-use native.Mathlib.Nat.{le-of-lt}
 use lib.Dec.{leb}
 use lib.ListN.{length}
 use Rattle.paper.specs.Net.{Key}
 use Rattle.paper.specs.Route.{Feasible}
 use Rattle.paper.specs.Rooms.{NoRoute, AllHeavy, LeastWeight, FewestSteps, MoreSteps, Entries, least, long, heavy, nowhere}
 use Rattle.laws.specs.Value.{Value, within, over, never, heft, count, cap, Le, Entry}
-use Rattle.laws.proofs.Cap.{Tested, holds, fails, tested, cap-light, cap-heavy}
+use Rattle.laws.proofs.Cap.{Tested, holds, fails, tested}
 
 -- what a bound on `cap w s`, and an equation for it, says of w and s
 pub never-cap : (w s : ℕ) → Le never (cap w s) → ⊥

@@ -1,15 +1,15 @@
 -- The parts of a best route's level are best for their own pairs of places.
 -- Assumes nothing.
-use Prim.Native.Nat.{ℕ, zero, suc, _+_, _*_, _<_, _≤_}
-use mathlib.Core.Path.{_≡_, refl, sym, ap, _∙_}
+use Prim.Native.Nat.{ℕ, _+_, _*_}
+use mathlib.Core.Path.{_≡_, refl, ap}
 use mathlib.Core.List.{List, [], _∷_, _++_, append-assoc, append-nil}
-use mathlib.Core.Option.{Option, none, some}
-use mathlib.Core.Logic.{_⊎_, inl, inr}
+use mathlib.Core.Option.{Option, some}
+use mathlib.Core.Logic.{inl, inr}
 use native.Mathlib.Omega.{arith}
 use lib.ListN.{length, length-append}
-use Rattle.paper.specs.Net.{Kind, conv, wrap, unwrap, code, Key, key}
-use Rattle.paper.specs.Route.{Lex, flat, rank, Best, Feasible}
-use Rattle.laws.specs.Level.{Level, stay, carry, tunnel, keys, weight}
+use Rattle.paper.specs.Net.{conv, wrap, unwrap, code, Key, key}
+use Rattle.paper.specs.Route.{Lex, flat, rank, Best}
+use Rattle.laws.specs.Level.{Level, carry, tunnel, keys, weight}
 use Rattle.laws.proofs.Parse.{parse, sound-feasible}
 
 -- a common front, and a common rest behind lists of one length, do not matter to the order

@@ -1,18 +1,18 @@
 -- What a line says, read backwards: a shape comes from one spelling only.
 -- Assumes nothing.
-use mathlib.Core.Path.{_≡_, refl, sym, ap, _∙_}
-use mathlib.Core.Bool.{Bool, true, false, not, cond, _&&_, _||_, true≢false}
-use mathlib.Core.List.{List, [], _∷_, _++_, append-assoc, append-nil}
+use mathlib.Core.Path.{_≡_, refl, ap, _∙_}
+use mathlib.Core.Bool.{true, _&&_}
+use mathlib.Core.List.{List, [], _∷_, _++_}
 use mathlib.Core.Option.{Option, none, some, Option·none-ne-some, Option·some-injective}
-use Prim.Native.Nat.{ℕ, zero, suc, _+_, _*_, _<_, _≤_}
+use Prim.Native.Nat.{ℕ, _+_, _*_, _<_, _≤_}
 use native.Mathlib.Omega.{arith}
 use lib.Dec.{eqb, leb, ltb}
-use lib.ListN.{length, getD}
+use lib.ListN.{length}
 use borrow.Author.Tests.{eqb-true, leb-true, ltb-true}
-use Rattle.paper.specs.Net.{Kind, conv, wrap, unwrap, Link, link, Fun, fun, Net, net}
-use Rattle.paper.specs.Text.{Line, ended, cut, fields, number, decimal, same, net-word, link-word, fun-word, conv-word, wrap-word, unwrap-word, tabbed, written}
+use Rattle.paper.specs.Net.{Kind, conv, wrap, unwrap, Link, link, Fun, fun}
+use Rattle.paper.specs.Text.{fields, number, decimal, same, net-word, link-word, fun-word, conv-word, wrap-word, unwrap-word, tabbed}
 use Rattle.paper.specs.File.{netFits, linkFits, funFits, Shape, misshapen, netLine, linkLine, funLine, kindOf, netOf, linkOf, funOf, field, shaped, shape}
-use Rattle.paper.specs.Normal.{kindWord, linkText, funText, netText}
+use Rattle.paper.specs.Normal.{kindWord}
 use Rattle.laws.proofs.Before.{Test, holds, fails, test, and-left, and-right, same-eq}
 use Rattle.laws.proofs.Spelling.{one-spelling, Parted, parted, fields-parted}
 

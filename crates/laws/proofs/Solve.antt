@@ -2,14 +2,11 @@
 -- With it the marked examples need no certificates.
 -- Assumes nothing.
 use Prim.Native.Nat.{ℕ, zero, suc, _+_}
-use mathlib.Core.Path.{_≡_}
-use mathlib.Core.Bool.{Bool, true, false, cond, not, _&&_}
+use mathlib.Core.Bool.{true, false, _&&_}
 use mathlib.Core.List.{List, [], _∷_, foldr}
-use mathlib.Core.Option.{Option, none, some}
-use lib.Dec.{eqb, T}
-use lib.ListN.{length}
-use Rattle.paper.specs.Net.{Kind, conv, wrap, unwrap, code, Link, link, Fun, fun, Net, net}
-use Rattle.laws.specs.Value.{Value, within, over, never, cap, plus, Entry}
+use lib.Dec.{eqb}
+use Rattle.paper.specs.Net.{code, Link, link, Fun, fun, Net, net}
+use Rattle.laws.specs.Value.{Value, cap, plus}
 use Rattle.laws.proofs.Check.{le?}
 use Rattle.laws.proofs.Certificate.{Cell, cell, look}
 

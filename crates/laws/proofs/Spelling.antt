@@ -1,19 +1,19 @@
 -- A number has one spelling, a line one division into fields, and text that holds no LF is one line.
 -- Assumes nothing.
 use mathlib.Core.Path.{_≡_, refl, sym, ap, _∙_}
-use mathlib.Core.Bool.{Bool, true, false, not, cond, _&&_, _||_, true≢false}
+use mathlib.Core.Bool.{Bool, true, false, not, _&&_, _||_}
 use mathlib.Core.List.{List, [], _∷_, _++_, append-assoc, append-nil}
-use mathlib.Core.Option.{Option, none, some, Option·none-ne-some, Option·some-injective}
+use mathlib.Core.Option.{some, Option·none-ne-some, Option·some-injective}
 use mathlib.Core.Logic.{_⊎_, inl, inr}
-use Prim.Native.Nat.{ℕ, zero, suc, _+_, _*_, _-_, _/_, _%_, _^_, _<_, _≤_, zero-le, suc-le-suc}
+use Prim.Native.Nat.{ℕ, suc, _+_, _*_, _-_, _/_, _%_, _^_, _<_, _≤_, zero-le, suc-le-suc}
 use native.Mathlib.Omega.{arith}
-use native.Mathlib.Nat.{pow-suc, pow-le-pow-right, suc-add, add-suc, add-zero, mul-comm, mul-assoc, mul-le-mul-right, le-add-right, le-trans, one-mul}
+use native.Mathlib.Nat.{pow-suc, pow-le-pow-right, add-zero, mul-comm, mul-assoc, mul-le-mul-right, le-add-right, le-trans, one-mul}
 use native.Mathlib.Decide.{decLt}
-use lib.Dec.{eqb, leb, ltb}
-use lib.ListN.{length, length-append}
-use borrow.Author.Tests.{lt-ltb, le-ltb, leb-true, le-leb, eq-eqb, ne-eqb, eqb-true, eqb-false}
-use Rattle.paper.specs.Text.{Line, ended, cut, lines, linesOn, fields, fieldsOn, digit, digits, empty, spelled, valueFrom, number, decimalTo, decimal, tabbed}
-use Rattle.laws.proofs.Before.{Test, holds, fails, test, and-left, and-right, not-true}
+use lib.Dec.{eqb, leb}
+use lib.ListN.{length}
+use borrow.Author.Tests.{lt-ltb, le-ltb, leb-true, le-leb, eqb-true, eqb-false}
+use Rattle.paper.specs.Text.{ended, lines, linesOn, fields, fieldsOn, digit, digits, empty, spelled, valueFrom, number, decimalTo, decimal, tabbed}
+use Rattle.laws.proofs.Before.{Test, holds, fails, test, and-left, and-right}
 
 -- ## Numbers
 

@@ -1,7 +1,7 @@
 -- An enquiry has one entry and one outcome.
 -- Assumes nothing.
-use Prim.Native.Nat.{ℕ, _<_, _≤_, min}
-use mathlib.Core.Path.{_≡_, refl, sym, _∙_, fun-ext}
+use Prim.Native.Nat.{ℕ, _≤_}
+use mathlib.Core.Path.{_≡_, fun-ext}
 use mathlib.Core.List.{List}
 use mathlib.Core.Option.{Option}
 use mathlib.Core.Logic.{_⊎_, inl, inr}
@@ -10,7 +10,7 @@ use lib.ListN.{length}
 use Rattle.paper.specs.Net.{Key}
 use Rattle.paper.specs.Route.{Feasible, Best}
 use Rattle.paper.specs.Rooms.{NoRoute, AllHeavy, LeastWeight, FewestSteps, MoreSteps}
-use Rattle.laws.specs.Value.{Value, within, over, never, cap, Le, Entry}
+use Rattle.laws.specs.Value.{Value, never, cap, Entry}
 use Rattle.laws.proofs.Cap.{le-antisym-v}
 use Rattle.laws.proofs.Outcome.{never-cap}
 

@@ -57,7 +57,7 @@ fn net_line(file: &[u8], a: usize, e: usize) -> Said
 }
 
 // A link line, by its number of fields.
-fn link_line(file: &[u8], a: usize, e: usize) -> Said
+pub fn link_line(file: &[u8], a: usize, e: usize) -> Said
     requires { ⌜ (a ≤ e) × (e < length (now file)) ⌝ }
     ensures { λ r. ⌜ r ≡ saidOf (linkOf (number (fieldAt (now (file .entry)) a e 1)) (number (fieldAt (now (file .entry)) a e 2)) (number (fieldAt (now (file .entry)) a e 3)) (number (fieldAt (now (file .entry)) a e 4))) ⌝ }
 {

@@ -1,12 +1,12 @@
 -- The definitions of the file, run: one table of small files, each with what it is judged to be, and one computed test.
 -- Assumes nothing.
 use mathlib.Core.Bool.{Bool, true, false, _&&_}
-use mathlib.Core.List.{List, [], _∷_, _++_}
+use mathlib.Core.List.{List, [], _∷_}
 use Prim.Native.Nat.{ℕ, zero, suc}
 use Prim.Native.String.{String}
 use lib.Dec.{eqb, T}
 use Rattle.paper.specs.Net.{Link, link, net, before}
-use Rattle.paper.specs.Text.{Line, ended, cut, lines, linesOn, fields, fieldsOn, digit, digits, empty, spelled, valueFrom, number, decimalTo, decimal, tabbed, written, same, bytes, net-word, link-word, fun-word, conv-word, wrap-word, unwrap-word}
+use Rattle.paper.specs.Text.{lines, linesOn, fields, fieldsOn, digit, digits, empty, spelled, valueFrom, number, decimalTo, decimal, tabbed, written, same, bytes, net-word, link-word, fun-word, conv-word, wrap-word, unwrap-word}
 use Rattle.paper.specs.File.{kindOf, netOf, linkOf, funOf, field, shaped, shape, linkLine, linkKey, funKey, insert, given, netFits, linkFits, funFits, Kept, bad, good, header, put, onward, fromTop, Judged, refused, accepted, judge}
 use Rattle.paper.specs.Normal.{kindWord, linkText, funText, netText, texts, normal}
 

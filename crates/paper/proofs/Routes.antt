@@ -1,16 +1,16 @@
 -- The definitions of routes, run on the marked examples: each program that document 01 calls wrong would fail here.
 -- Assumes nothing.
 use mathlib.Core.Bool.{Bool, true, false, _&&_}
-use mathlib.Core.List.{List, [], _∷_, _++_}
+use mathlib.Core.List.{List, [], _∷_}
 use mathlib.Core.Option.{Option, none, some}
 use mathlib.Core.Path.{_≡_, refl}
-use mathlib.Core.Logic.{_⊎_, inl, inr}
-use Prim.Native.Nat.{ℕ, zero, suc, _<_, _≤_}
+use mathlib.Core.Logic.{inl, inr}
+use Prim.Native.Nat.{ℕ, _<_, _≤_}
 use native.Mathlib.Omega.{arith}
 use lib.Dec.{eqb, T}
 use lib.ListN.{length}
-use Rattle.paper.specs.Limits.{heaviest, longest}
-use Rattle.paper.specs.Net.{Kind, conv, wrap, unwrap, Net, Key, key, hop, across, charge, both}
+use Rattle.paper.specs.Limits.{heaviest}
+use Rattle.paper.specs.Net.{conv, wrap, unwrap, Net, Key, key, hop, across, charge, both}
 use Rattle.paper.specs.Route.{At, at, act, move, then, step, replay, Lex, flat, rank}
 use Rattle.paper.specs.Text.{bytes, same, decimal, decimalTo, written, tabbed, path-word, step-word, conv-word, wrap-word, unwrap-word}
 use Rattle.paper.specs.Normal.{kindWord}

@@ -8,7 +8,7 @@ use mathlib.Core.Option.{Option}
 use lib.Dec.{leb, ltb}
 use lib.ListN.{length}
 use Rattle.paper.specs.Limits.{heaviest, longest}
-use Rattle.paper.specs.Net.{Link, Fun, Net, net, Key, hop}
+use Rattle.paper.specs.Net.{Link, Fun, net, Key, hop}
 use Rattle.paper.specs.Route.{Best, flat}
 use Rattle.paper.specs.File.{Judged, refused, accepted, judge}
 use Rattle.paper.specs.Normal.{normal}

@@ -7,7 +7,7 @@ use mathlib.Core.Option.{Option}
 use lib.ListN.{length, getD, replicate}
 use lib.Seq.{sets}
 use Rattle.paper.specs.Limits.{heaviest, longest, over-mark, never-mark, long-mark}
-use Rattle.paper.specs.Net.{Net, net, Key, hop, place}
+use Rattle.paper.specs.Net.{Key, hop, place}
 use Rattle.paper.specs.Route.{Feasible}
 
 -- the room d with s laid over it from entry i on; every other entry is as it was

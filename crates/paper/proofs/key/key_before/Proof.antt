@@ -1,14 +1,12 @@
 use borrow.Author.Needs.{needs}
 use mathlib.Core.Path.{_≡_, refl, sym, _∙_}
-use Prim.Native.Nat.{_+_, _-_, _≤_}
+use Prim.Native.Nat.{_-_, _≤_}
 use native.Mathlib.Omega.{arith}
 use lib.ListN.{length, drop}
 use Rattle.paper.specs.Net.{before}
 use Rattle.paper.proofs.Keys.{same-at, differ-at, ended}
 use Rattle.paper.proofs.key.key_before.Statement.{statement}
 use Rattle.paper.proofs.key.key_before.Tie as tie
-use Rattle.paper.proofs.key.key_before.Reads as reads
-use Rattle.paper.proofs.key.key_before.Lts as lts
 
 abbrev Inv-loop : tie.InvT-loop
 Inv-loop a b i₀ i = (i ≤ 4) × (length a ≡ 4) × (length b ≡ 4) × (before a b ≡ before (drop i a) (drop i b))

@@ -3,8 +3,6 @@ use native.Mathlib.Omega.{arith}
 use Rattle.paper.proofs.Places.{place-lt}
 use Rattle.paper.proofs.place.Place.number.Statement.{statement}
 use Rattle.paper.proofs.place.Place.number.Tie as tie
-use Rattle.paper.proofs.place.Place.number.Reads as reads
-use Rattle.paper.proofs.place.Place.number.Lts as lts
 
 mul-result : tie.Need-mul-result
 mul-result c = omega (arith, place-lt (c .args .n) (c .args .p) (c .args .self .node) (c .args .self .protocol) (c .pre .0) (c .pre .1))

@@ -3,8 +3,6 @@ use native.Mathlib.Nat.{div-add-mod', mod-lt}
 use borrow.Author.Needs.{needs}
 use Rattle.paper.proofs.place.Place.of.Statement.{statement}
 use Rattle.paper.proofs.place.Place.of.Tie as tie
-use Rattle.paper.proofs.place.Place.of.Reads as reads
-use Rattle.paper.proofs.place.Place.of.Lts as lts
 
 div-t3 : tie.Need-div-t3
 div-t3 c = search needs
