@@ -253,26 +253,29 @@ pub record Same (n p : ℕ) (ls : List Link) (fs : List Fun) (m q : ℕ) (ms : L
 alike-eq : {A : Type 0} (xs ys : List A) → xs ≡ ys → Alike xs ys
 alike-eq xs ys e = rw e (record { there = λ a m. m; back = λ a m. m })
 
+-- two accepted files with the same header and records hold the same network
+pub same-network : (file other : List ℕ) (n p : ℕ) (ls : List Link) (fs : List Fun) (m q : ℕ) (ms : List Link) (gs : List Fun)
+    → judge file ≡ accepted (net n p ls fs) → judge other ≡ accepted (net m q ms gs)
+    → Same n p ls fs m q ms gs → net n p ls fs ≡ net m q ms gs
+same-network file other n p ls fs m q ms gs e f s =
+    let k = known file (net n p ls fs) e .sound in
+    let j = known other (net m q ms gs) f .sound in
+    let u : ls ≡ ms = sorted-alike linkKey ls ms (k .links) (j .links) (s .links) in
+    let v : fs ≡ gs = sorted-alike funKey fs gs (k .funs) (j .funs) (s .funs) in
+    let x = s .nodes in
+    let y = s .protocols in
+    cc
+
 pub normal-same : (file other : List ℕ) (n p : ℕ) (ls : List Link) (fs : List Fun) (m q : ℕ) (ms : List Link) (gs : List Fun)
     → judge file ≡ accepted (net n p ls fs) → judge other ≡ accepted (net m q ms gs)
     → normal (net n p ls fs) ≡ normal (net m q ms gs) ↔ Same n p ls fs m q ms gs
-normal-same file other n p ls fs m q ms gs e f = (there, back)
+normal-same file other n p ls fs m q ms gs e f = (there, λ s. ap normal (same-network file other n p ls fs m q ms gs e f s))
   where
     there : normal (net n p ls fs) ≡ normal (net m q ms gs) → Same n p ls fs m q ms gs
     there g =
         let h : accepted (net n p ls fs) ≡ accepted (net m q ms gs) =
         sym (normal-again file (net n p ls fs) e) ∙ ap judge g ∙ normal-again other (net m q ms gs) f in
         record { nodes = cc; protocols = cc; links = alike-eq ls ms (cc); funs = alike-eq fs gs (cc) }
-
-    back : Same n p ls fs m q ms gs → normal (net n p ls fs) ≡ normal (net m q ms gs)
-    back s =
-        let k = known file (net n p ls fs) e .sound in
-        let j = known other (net m q ms gs) f .sound in
-        let u : ls ≡ ms = sorted-alike linkKey ls ms (k .links) (j .links) (s .links) in
-        let v : fs ≡ gs = sorted-alike funKey fs gs (k .funs) (j .funs) (s .funs) in
-        let x = s .nodes in
-        let y = s .protocols in
-        cc
 
 -- lines below the first in another order: the same network
 pub other-order : (file other : List ℕ) (h : Line) (ls ms : List Line) (m : Net) → lines file ≡ h ∷ ls → lines other ≡ h ∷ ms → Perm ls ms
