@@ -19,6 +19,7 @@ pub mod Solve
 pub mod Marked
 pub mod Unique
 pub mod Once
+pub mod Alike
 pub mod Lookup
 pub mod Greedy
 pub mod Tight

@@ -109,7 +109,7 @@ best-least hop S a D b ks w js u p g = go (p .first js u g)
 
 module _ (hop : Key → ℕ → Option (ℕ × ℕ)) (n p S a D b : ℕ) where
   -- a found route's weight is the least, and its steps the fewest
-  found-least : (Q : List ℕ) (ks : List Key) (w : ℕ) → Found hop n p S a D b Q ks w → LeastWeight hop S a D b w
+  pub found-least : (Q : List ℕ) (ks : List Key) (w : ℕ) → Found hop n p S a D b Q ks w → LeastWeight hop S a D b w
   found-least Q ks w f = record { limit = f .light; of-route = (ks, f .best .feasible); least = λ js u g. best-least hop S a D b ks w js u (f .best) g }
 
   not-10-found : (Q : List ℕ) (ks : List Key) (w v : ℕ) → Found hop n p S a D b Q ks w → LeastWeight hop S a D b v → MoreSteps hop S a D b v (most-steps (length Q)) → ⊥
