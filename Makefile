@@ -1,36 +1,7 @@
-# Two commands do everything: `make route` runs the route program on a sample network, `make test` passes the tests.
-.PHONY: route test bench compare clean
-
-# The sample: document 01's network and enquiries.
-route: target/bin/route
-	cd crates/route/data && ../../../target/bin/route < ../stdin
-
-target/bin/route:
-	rt check route
-
-# The C side comes first, over the library as it is proved; rt ci then proves everything from nothing and ends with its own verdict.
+# `make test` passes the tests.
+.PHONY: test clean
 test:
-	rt staticlib mpakirovu
-	rt check route normalise
-	tools/check-header
-	examples/run
-	second/build
-	target/second/driver --self
-	target/second/driver 3000 1 target/bin/route target/bin/normalise
 	rt ci
-
-# Any number of cases by hand: make compare CASES=100000 SEED=7
-CASES = 10000
-SEED = 1
-compare:
-	rt staticlib mpakirovu
-	rt check route normalise
-	second/build
-	target/second/driver $(CASES) $(SEED) target/bin/route target/bin/normalise
-
-bench:
-	rt staticlib mpakirovu
-	bench/run
 
 clean:
 	rm -rf target
