@@ -100,7 +100,7 @@ pub fn put_fields(out: &mut [u8], at: usize, numbers: &[u32]) -> usize
 }
 
 // A tab and the word of the kind whose code is k.
-pub fn put_kind(out: &mut [u8], at: usize, k: usize) -> usize
+pub fn put_kind(out: &mut [u8], at: usize, k: u32) -> usize
     requires { ⌜ at + length (9 ∷ kindWord (kindAt k)) ≤ length (now out) ⌝ }
     ensures { λ r. ⌜ Put (now (out .entry)) (now (out .exit)) at r (9 ∷ kindWord (kindAt k)) ⌝ }
 {
