@@ -6,6 +6,7 @@ ghost use Rattle.paper.specs.Rooms.{laid};
 ghost use Rattle.paper.specs.Normal.{netText, linkText, funText, texts, normal};
 ghost use Rattle.records.specs.Columns.{linkAt, funAt, linkRows, funRows, netOf};
 ghost use Rattle.digits.specs.Write.{Put};
+ghost use Rattle.normal.specs.Line.{lastFields};
 use digits::write::put_byte;
 use digits::write::put_field;
 use digits::write::put_fields;
@@ -22,16 +23,22 @@ fn put_net(text: &mut [u8], at: usize, n: u32, p: u32) -> usize
     put_byte(text, i, 10)
 }
 
+// The numbers of a room from a up to e, as a line's last fields, and the LF.
+fn put_rest(text: &mut [u8], at: usize, room: &[u32], a: usize, e: usize) -> usize
+    requires { ⌜ (a ≤ e) × (e ≤ length (now room)) × (at + length (lastFields (now room) a e) ≤ length (now text)) ⌝ }
+    ensures { λ r. ⌜ Put (now (text .entry)) (now (text .exit)) at r (lastFields (now (room .entry)) a e) ⌝ }
+{
+    let i = put_fields(text, at, &room[a..e]);
+    put_byte(text, i, 10)
+}
+
 // A link's fields are its four numbers.
 fn put_link(text: &mut [u8], at: usize, links: &[u32], i: usize) -> usize
     requires { ⌜ (i * 4 + 4 ≤ length (now links)) × (at + length (linkText (linkAt (now links) i)) ≤ length (now text)) ⌝ }
     ensures { λ r. ⌜ Put (now (text .entry)) (now (text .exit)) at r (linkText (linkAt (now (links .entry)) i)) ⌝ }
 {
-    let a = i * 4;
-    let e = a + 4;
     let at = put_word(text, at, b"link");
-    let at = put_fields(text, at, &links[a..e]);
-    put_byte(text, at, 10)
+    put_rest(text, at, links, i * 4, i * 4 + 4)
 }
 
 // A function's fields are its five numbers, the second of them as a word.
@@ -39,15 +46,10 @@ fn put_fun(text: &mut [u8], at: usize, funs: &[u32], j: usize) -> usize
     requires { ⌜ (j * 5 + 5 ≤ length (now funs)) × (at + length (funText (funAt (now funs) j)) ≤ length (now text)) ⌝ }
     ensures { λ r. ⌜ Put (now (text .entry)) (now (text .exit)) at r (funText (funAt (now (funs .entry)) j)) ⌝ }
 {
-    let a = j * 5;
-    let k = a + 1;
-    let x = a + 2;
-    let e = a + 5;
     let at = put_word(text, at, b"fun");
-    let at = put_field(text, at, funs[a]);
-    let at = put_kind(text, at, funs[k]);
-    let at = put_fields(text, at, &funs[x..e]);
-    put_byte(text, at, 10)
+    let at = put_field(text, at, funs[j * 5]);
+    let at = put_kind(text, at, funs[j * 5 + 1]);
+    put_rest(text, at, funs, j * 5 + 2, j * 5 + 5)
 }
 
 fn put_links(text: &mut [u8], at: usize, links: &[u32], c: usize) -> usize

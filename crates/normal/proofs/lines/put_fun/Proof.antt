@@ -7,18 +7,6 @@ use borrow.Author.Needs.{needs}
 use Rattle.normal.proofs.lines.put_fun.Statement.{statement}
 use Rattle.normal.proofs.lines.put_fun.Tie as tie
 
-mul-a : tie.Need-mul-a
-mul-a c = search needs
-
-add-k : tie.Need-add-k
-add-k c = search needs
-
-add-x : tie.Need-add-x
-add-x c = search needs
-
-add-e : tie.Need-add-e
-add-e c = search needs
-
 slice-aggregate-put-word : tie.Need-slice-aggregate-put-word
 slice-aggregate-put-word c = search needs
 
@@ -27,6 +15,9 @@ put-word-requires c κs = let s = c .before .before .before .before in omega (ar
 
 mul-put-field : tie.Need-mul-put-field
 mul-put-field c = search needs
+
+mul-put-field-2 : tie.Need-mul-put-field-2
+mul-put-field-2 c = search needs
 
 shared-slice-read-put-field : tie.Need-shared-slice-read-put-field
 shared-slice-read-put-field c = search needs
@@ -37,57 +28,58 @@ put-field-requires c κs = let s = c .before .before .before .before .before .be
 mul-put-kind : tie.Need-mul-put-kind
 mul-put-kind c = search needs
 
+add-put-kind : tie.Need-add-put-kind
+add-put-kind c = search needs
+
+mul-put-kind-2 : tie.Need-mul-put-kind-2
+mul-put-kind-2 c = search needs
+
 shared-slice-read-put-kind : tie.Need-shared-slice-read-put-kind
 shared-slice-read-put-kind c = search needs
 
 put-kind-requires : tie.Need-put-kind-requires
 put-kind-requires c κs = let s = c .before .before .before .before .before .before .before .before .before .before .before .before .before .before in omega (arith, fun-length (now (s .args .funs)) (s .args .j) (s .pre .0))
 
-mul-put-fields : tie.Need-mul-put-fields
-mul-put-fields c = search needs
+mul-put-rest : tie.Need-mul-put-rest
+mul-put-rest c = search needs
 
-sub-put-fields : tie.Need-sub-put-fields
-sub-put-fields c = search needs
+add-put-rest : tie.Need-add-put-rest
+add-put-rest c = search needs
 
-part-put-fields-start : tie.Need-part-put-fields-start
-part-put-fields-start c = search needs
+mul-put-rest-2 : tie.Need-mul-put-rest-2
+mul-put-rest-2 c = search needs
 
-part-put-fields-end : tie.Need-part-put-fields-end
-part-put-fields-end c = search needs
+add-put-rest-2 : tie.Need-add-put-rest-2
+add-put-rest-2 c = search needs
 
-put-fields-requires : tie.Need-put-fields-requires
-put-fields-requires c κs = let s = c .before .before .before .before .before .before .before .before .before .before .before .before .before .before .before .before .before .before .before in omega (arith, fun-length (now (s .args .funs)) (s .args .j) (s .pre .0))
-
-put-byte-requires : tie.Need-put-byte-requires
-put-byte-requires c κs = let s = c .before .before .before .before .before .before .before .before .before .before .before .before .before .before .before .before .before .before .before .before .before .before .before in omega (arith, fun-length (now (s .args .funs)) (s .args .j) (s .pre .0))
+put-rest-requires : tie.Need-put-rest-requires
+put-rest-requires c κs = let s = c .before .before .before .before .before .before .before .before .before .before .before .before .before .before .before .before .before .before in omega (arith, fun-length (now (s .args .funs)) (s .args .j) (s .pre .0))
 
 same-length : tie.Need-same-length
 same-length c = search needs
 
 returns : tie.Need-returns
-returns c = let s = c .before .before .before .before .before .before .before .before .before .before .before .before .before .before .before .before .before .before .before .before .before .before .before .before .before .before in rw (fun-parts (now (s .args .funs)) (s .args .j) (s .pre .0)) (then (then (then (then (c .before .before .before .before .before .before .before .before .before .before .before .before .before .before .before .before .before .before .before .before .before .put-word .ensures) (c .before .before .before .before .before .before .before .before .before .before .before .before .before .before .before .before .put-field .ensures)) (c .before .before .before .before .before .before .before .before .before .before .before .put-kind .ensures)) (c .before .before .before .before .before .before .put-fields .ensures)) (c .before .before .put-byte .ensures))
+returns c = let s = c .before .before .before .before .before .before .before .before .before .before .before .before .before .before .before .before .before .before .before .before .before in rw (fun-parts (now (s .args .funs)) (s .args .j) (s .pre .0)) (then (then (then (c .before .before .before .before .before .before .before .before .before .before .before .before .before .before .before .before .put-word .ensures) (c .before .before .before .before .before .before .before .before .before .before .before .put-field .ensures)) (c .before .before .before .before .before .before .put-kind .ensures)) (c .before .before .put-rest .ensures))
 
 pub put-fun-spec : {M : Type 1} → statement M
 put-fun-spec =
     tie.close
     (tie.spec
-    mul-a
-    add-k
-    add-x
-    add-e
     slice-aggregate-put-word
     put-word-requires
     mul-put-field
+    mul-put-field-2
     shared-slice-read-put-field
     put-field-requires
     mul-put-kind
+    add-put-kind
+    mul-put-kind-2
     shared-slice-read-put-kind
     put-kind-requires
-    mul-put-fields
-    sub-put-fields
-    part-put-fields-start
-    part-put-fields-end
-    put-fields-requires
-    put-byte-requires
+    mul-put-rest
+    add-put-rest
+    mul-put-rest-2
+    add-put-rest-2
+    put-rest-requires
     same-length
     returns)
