@@ -5,6 +5,7 @@ ghost use lib.ListN.{length};
 ghost use Rattle.paper.specs.Rooms.{laid};
 ghost use Rattle.paper.specs.Normal.{netText, linkText, funText, texts, normal};
 ghost use Rattle.records.specs.Columns.{linkAt, funAt, linkRows, funRows, netOf};
+ghost use Rattle.records.specs.Valid.{Valid};
 ghost use Rattle.digits.specs.Write.{Put};
 ghost use Rattle.normal.specs.Line.{lastFields};
 use digits::write::put_byte;
@@ -80,20 +81,20 @@ fn put_funs(text: &mut [u8], at: usize, funs: &[u32], d: usize) -> usize
 
 // The normal file of the first c links and the first d functions, from the room's first byte on; its length is answered.
 pub fn write_normal(
-    text: &mut [u8],
-    n: u32,
-    p: u32,
+    n: usize,
+    p: usize,
     links: &[u32],
     c: usize,
     funs: &[u32],
     d: usize,
+    text: &mut [u8],
 ) -> usize
-    requires { ⌜ (c * 4 ≤ length (now links)) × (d * 5 ≤ length (now funs)) ⌝ }
+    requires { ⌜ Valid n p c (now links) d (now funs) ⌝ }
     requires { ⌜ length (normal (netOf n p c (now links) d (now funs))) ≤ length (now text) ⌝ }
     ensures { λ r. ⌜ r ≡ length (normal (netOf n p c (now (links .entry)) d (now (funs .entry)))) ⌝ }
     ensures { λ r. ⌜ now (text .exit) ≡ laid (now (text .entry)) 0 (normal (netOf n p c (now (links .entry)) d (now (funs .entry)))) ⌝ }
 {
-    let i = put_net(text, 0, n, p);
+    let i = put_net(text, 0, n as u32, p as u32);
     let i = put_links(text, i, links, c);
     put_funs(text, i, funs, d)
 }

@@ -6,6 +6,12 @@ use borrow.Author.Needs.{needs}
 use Rattle.normal.proofs.lines.write_normal.Statement.{statement}
 use Rattle.normal.proofs.lines.write_normal.Tie as tie
 
+cast-put-net : tie.Need-cast-put-net
+cast-put-net c = search needs
+
+cast-put-net-2 : tie.Need-cast-put-net-2
+cast-put-net-2 c = search needs
+
 put-net-requires : tie.Need-put-net-requires
 put-net-requires c κs = let a = c .before .before .before .before .args in omega (arith, file-length (a .n) (a .p) (a .c) (now (a .links)) (a .d) (now (a .funs)))
 
@@ -23,4 +29,12 @@ returns c = let a = c .before .before .before .before .before .before .before .b
 
 pub write-normal-spec : {M : Type 1} → statement M
 write-normal-spec =
-    tie.close (tie.spec put-net-requires put-links-requires put-funs-requires same-length returns)
+    tie.close
+    (tie.spec
+    cast-put-net
+    cast-put-net-2
+    put-net-requires
+    put-links-requires
+    put-funs-requires
+    same-length
+    returns)
