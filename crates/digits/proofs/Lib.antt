@@ -3,3 +3,4 @@ pub mod Parts
 pub mod Reading
 pub mod Digits
 pub mod Writing
+pub mod Words

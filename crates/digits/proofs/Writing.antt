@@ -1,13 +1,13 @@
 -- One writer after another, and a text written piece by piece. Assumes nothing.
 use mathlib.Core.Path.{_≡_, refl, sym, ap, _∙_}
-use mathlib.Core.List.{List, [], _∷_, _++_}
-use Prim.Native.Nat.{ℕ, _+_, _-_, _<_}
+use mathlib.Core.List.{List, [], _∷_, _++_, map}
+use Prim.Native.Nat.{ℕ, suc, _+_, _-_, _<_, _≤_}
 use native.Mathlib.Numerals.{add-one}
 use native.Mathlib.Nat.{add-zero}
 use native.Mathlib.Omega.{arith}
 use lib.ListN.{length, getD, set, drop, length-append}
 use lib.Seq.{drop-cons, drop-length}
-use Rattle.paper.specs.Text.{decimal}
+use Rattle.paper.specs.Text.{decimal, tabbed}
 use Rattle.laws.proofs.Laid.{laid-none, laid-one, laid-then, laid-seq, length-laid}
 use Rattle.digits.specs.Write.{Put, Left, digitByte, lastDigits}
 use Rattle.digits.proofs.Digits.{digits-first, decimal-digits}
@@ -31,6 +31,10 @@ less-left {e} {f} {j} {k} {u} {t} l p =
       same = (rw (p .text, p .next) (sym (laid-then e j u t))) ∙ l .same;
       size = ap length (p .text) ∙ length-laid e j u ∙ l .size;
     }
+
+-- there is room for the next piece u
+pub left-room : {d e : List ℕ} {i j : ℕ} {s : List ℕ} (u t : List ℕ) → i + length s ≤ length d → Left d i s e j (u ++ t) → j + length u ≤ length e
+left-room u t h l = omega (arith, l .ends, l .size, length-append u t)
 
 pub none-left : {d e : List ℕ} {i j : ℕ} {s : List ℕ} → Left d i s e j [] → Put d e i j s
 none-left {e} {j} l = record { next = omega (arith, l .ends); text = sym (laid-none e j) ∙ l .same }
@@ -60,3 +64,22 @@ digit-left n k b h l q p = less-left (rw (digits-first k n h) at l) (rw q at p)
 pub number-put : {d e : List ℕ} {i j : ℕ} {s : List ℕ} (n k : ℕ) → k ≡ 0 → Left d i s e j (lastDigits k n) → Put d e i j s
 unfolding lastDigits
 number-put n k h l = none-left (rw h at l)
+
+-- ## Fields: the numbers from the one at k on are left
+
+fields-first : (ns : List ℕ) (k : ℕ) → k < length ns
+    → tabbed (map decimal (drop k ns)) ≡ (9 ∷ decimal (getD ns k 0)) ++ tabbed (map decimal (drop (suc k) ns))
+unfolding tabbed
+fields-first ns k h = rw (drop-cons ns k 0 h)
+
+pub field-room : {d e : List ℕ} {i j : ℕ} {s : List ℕ} (ns : List ℕ) (k : ℕ) → k < length ns → i + length s ≤ length d → Left d i s e j (tabbed (map decimal (drop k ns)))
+    → j + length (9 ∷ decimal (getD ns k 0)) ≤ length e
+field-room ns k h g l = left-room (9 ∷ decimal (getD ns k 0)) (tabbed (map decimal (drop (suc k) ns))) g (rw (fields-first ns k h) at l)
+
+pub field-left : {d e f : List ℕ} {i j j′ : ℕ} {s : List ℕ} (ns : List ℕ) (k : ℕ) → k < length ns → Left d i s e j (tabbed (map decimal (drop k ns)))
+    → Put e f j j′ (9 ∷ decimal (getD ns k 0)) → Left d i s f j′ (tabbed (map decimal (drop (k + 1) ns)))
+field-left ns k h l p = rw (add-one k) (less-left (rw (fields-first ns k h) at l) p)
+
+pub fields-put : {d e : List ℕ} {i j : ℕ} {s : List ℕ} (ns : List ℕ) (k : ℕ) → k ≡ length ns → Left d i s e j (tabbed (map decimal (drop k ns))) → Put d e i j s
+unfolding tabbed
+fields-put ns k h l = none-left (rw (h, drop-length ns) at l)

@@ -1,4 +1,4 @@
-// One number or word: the powers of ten, a number read, and numbers, words and bytes written into a room.
+// Numbers and words: the powers of ten, a number read, and bytes, words, numbers and fields written into a room.
 pub mod read;
 pub mod tens;
 pub mod write;

@@ -1,9 +1,11 @@
-// Bytes, words and numbers, written straight into a room from `at` on; each writer answers where the next byte goes.
+// Bytes, words, numbers and fields, written straight into a room from `at` on; each writer answers where the next byte goes.
 ghost use mathlib.Core.Path.{_≡_};
-ghost use mathlib.Core.List.{[], _∷_};
+ghost use mathlib.Core.List.{[], _∷_, map};
 ghost use Prim.Native.Nat.{_+_, _≤_, _<_};
 ghost use lib.ListN.{length};
-ghost use Rattle.paper.specs.Text.{decimal};
+ghost use Rattle.paper.specs.Text.{decimal, tabbed};
+ghost use Rattle.paper.specs.Normal.{kindWord};
+ghost use Rattle.records.specs.Columns.{kindAt};
 ghost use Rattle.digits.specs.Write.{Put, digitByte};
 use crate::tens::ten;
 
@@ -81,4 +83,32 @@ pub fn put_word_field(out: &mut [u8], at: usize, word: &[u8]) -> usize
 {
     let i = put_byte(out, at, 9);
     put_word(out, i, word)
+}
+
+// The numbers, each with a tab before it.
+pub fn put_fields(out: &mut [u8], at: usize, numbers: &[u32]) -> usize
+    requires { ⌜ at + length (tabbed (map decimal (now numbers))) ≤ length (now out) ⌝ }
+    ensures { λ r. ⌜ Put (now (out .entry)) (now (out .exit)) at r (tabbed (map decimal (now (numbers .entry)))) ⌝ }
+{
+    let mut i = at;
+    let mut k: usize = 0;
+    while k < numbers.len() {
+        i = put_field(out, i, numbers[k]);
+        k += 1;
+    }
+    i
+}
+
+// A tab and the word of the kind whose code is k.
+pub fn put_kind(out: &mut [u8], at: usize, k: u32) -> usize
+    requires { ⌜ at + length (9 ∷ kindWord (kindAt k)) ≤ length (now out) ⌝ }
+    ensures { λ r. ⌜ Put (now (out .entry)) (now (out .exit)) at r (9 ∷ kindWord (kindAt k)) ⌝ }
+{
+    if k == 0 {
+        return put_word_field(out, at, b"conv");
+    }
+    if k == 1 {
+        return put_word_field(out, at, b"wrap");
+    }
+    put_word_field(out, at, b"unwrap")
 }

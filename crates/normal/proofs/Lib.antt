@@ -1,0 +1,5 @@
+pub mod Parts
+pub mod Rows
+pub mod Answers
+pub mod Numbers
+pub mod Demands

@@ -1,0 +1,2 @@
+// The writer of normal files.
+pub mod lines;
