@@ -13,12 +13,12 @@ use Rattle.paper.specs.Net.{Kind, conv, wrap, unwrap, Link, link, Fun, fun, Net
 use Rattle.paper.specs.Text.{Line, ended, cut, lines, linesOn, fields, decimalTo, decimal, net-word, link-word, fun-word, conv-word, wrap-word, unwrap-word, tabbed, written}
 use Rattle.paper.specs.File.{linkKey, funKey, netFits, Shape, misshapen, netLine, linkLine, funLine, shaped, shape, bad, good, header, onward, fromTop, Judged, refused, accepted, judge}
 use Rattle.paper.specs.Normal.{kindWord, linkText, funText, netText, texts, normal}
-use Rattle.laws.specs.Sets.{Alike, Perm, none, keep, swap, both}
+use Rattle.laws.specs.Sets.{Mem, Alike, Perm, none, keep, swap, both}
 use Rattle.laws.proofs.Before.{Test, holds, fails, test}
 use Rattle.laws.proofs.Insert.{perm-sym, Sorted, sorted-alike}
 use Rattle.laws.proofs.Spelling.{free, free-append, lines-text}
 use Rattle.laws.proofs.Shapes.{linkBody, funBody, netBody, net-bytes}
-use Rattle.laws.proofs.Fold.{went, any-order, body, head, Sound, ran}
+use Rattle.laws.proofs.Fold.{SoundAt, went, any-order, body, head, Sound, ran}
 
 -- ## The text of a network, line by line
 

@@ -12,7 +12,7 @@ use borrow.Author.Tests.{leb-false, lt-leb}
 use Rattle.paper.specs.Net.{Link, Fun, Net, net}
 use Rattle.paper.specs.Text.{Line, ended, cut, fields}
 use Rattle.paper.specs.File.{linkKey, funKey, netFits, linkFits, funFits, insert, given, Shape, misshapen, netLine, linkLine, funLine, shaped, shape, Kept, bad, good, header, put, onward, refused, accepted}
-use Rattle.laws.specs.Sets.{Perm, none, keep, swap, both}
+use Rattle.laws.specs.Sets.{Mem, Perm, none, keep, swap, both}
 use Rattle.laws.proofs.Before.{Test, holds, fails, test, not-true}
 use Rattle.laws.proofs.Insert.{perm-refl, perm-middle, perm-front, perm-back, length-insert, insert-perm, swapped, Sorted, mem-insert, sorted-insert}
 use Rattle.laws.proofs.Shapes.{linkBody, funBody, netBody, link-bytes, fun-bytes, net-range}
