@@ -1,5 +1,5 @@
 -- The step room with a route laid into it holds that route (`keys-laid`). Assumes nothing.
-use Prim.Native.Nat.{ℕ, suc, _+_, _*_, _<_, _≤_}
+use Prim.Native.Nat.{ℕ, suc, _+_, _*_, _-_, _<_, _≤_}
 use mathlib.Core.Path.{_≡_, refl}
 use mathlib.Core.List.{List, [], _∷_}
 use native.Mathlib.Nat.{add-zero}
@@ -10,8 +10,8 @@ use Rattle.paper.specs.Route.{flat}
 use Rattle.paper.specs.Rooms.{laid}
 use Rattle.laws.proofs.Laid.{laid-there}
 use Rattle.records.specs.Columns.{kindAt, rows}
-use Rattle.replay.specs.Keys.{keyOf, keyAt, keysAt}
-use Rattle.replay.proofs.Rows.{length-rows}
+use Rattle.replay.specs.Keys.{entries, keyOf, keyAt, keysAt}
+use Rattle.replay.proofs.Rows.{left, left-next, length-rows}
 
 pub kind-back : (c : Kind) → kindAt (code c) ≡ c
 unfolding kindAt
@@ -40,3 +40,13 @@ keys-laid q ks h = keys-read (laid q 0 (flat ks)) ks 0 (λ j g. laid-there q 0 (
 pub length-keys : (q : List ℕ) (k : ℕ) → length (keysAt q k) ≡ k
 unfolding keysAt
 length-keys q k = length-rows (keyAt q) 0 k
+
+-- ## Step by step
+
+pub keys-left : (q : List ℕ) (k : ℕ) → keysAt q k ≡ left (keyAt q) k 0
+unfolding keysAt
+keys-left q k = let e : k - 0 ≡ k = omega arith in rw e
+
+pub key-left : (q : List ℕ) (k i : ℕ) (e : List ℕ) → i < k → e ≡ entries q i → left (keyAt q) k i ≡ keyOf e ∷ left (keyAt q) k (i + 1)
+unfolding keyAt
+key-left q k i e h p = rw p (left-next (keyAt q) k i h)

@@ -1,4 +1,4 @@
--- A feasible route runs by the links alone (`route-runs`), with no stack higher than the cells; and a replay goes on step by step.
+-- A feasible route runs by the links alone (`feasible-route`), with no stack higher than the cells; and a replay goes on step by step.
 -- Assumes nothing.
 use Prim.Native.Nat.{ℕ, zero, suc, _+_, _*_, _<_, _≤_, max}
 use mathlib.Core.Path.{_≡_, refl, ap}
@@ -6,7 +6,8 @@ use mathlib.Core.List.{List, [], _∷_}
 use mathlib.Core.Option.{Option, none, some, Option·none-ne-some, Option·some-injective}
 use native.Mathlib.Nat.{add-zero, zero-add, le-refl}
 use native.Mathlib.Omega.{arith}
-use lib.ListN.{getD}
+use lib.ListN.{length}
+use Rattle.paper.specs.Limits.{longest}
 use Rattle.paper.specs.Net.{Kind, Key, key, charge, across, both, hop}
 use Rattle.paper.specs.Route.{At, at, move, then, step, replay, Feasible}
 use Rattle.laws.specs.Peak.{height, onward, peak}
@@ -16,13 +17,15 @@ use Rattle.records.specs.Columns.{rows, linkRows, funRows, netOf, hopOf}
 use Rattle.records.specs.Valid.{Valid}
 use Rattle.records.proofs.Links.{steps-inside}
 use Rattle.stack.specs.Items.{highest}
+use Rattle.stack.proofs.Cells.{length-items}
+use Rattle.replay.specs.declared.packet.Packet.{Packet}
 use Rattle.replay.specs.Keys.{keyOf, keyAt, keysAt}
-use Rattle.replay.specs.Packet.{free, crossing, Allowed, Runs, Links}
+use Rattle.replay.specs.Packet.{free, crossing, whereabouts, Allowed, Runs, Links, Route}
 use Rattle.replay.proofs.Rows.{length-rows}
 
 -- ## Step by step
 
-here-low : (hop : Key → ℕ → Option (ℕ × ℕ)) (ks : List Key) (c : At) → height c ≤ peak hop ks c
+pub here-low : (hop : Key → ℕ → Option (ℕ × ℕ)) (ks : List Key) (c : At) → height c ≤ peak hop ks c
 unfolding peak
 here-low hop [] c = le-refl (height c)
 here-low hop (k ∷ ks) c = omega arith
@@ -39,6 +42,10 @@ module _ (hop : Key → ℕ → Option (ℕ × ℕ)) (k : Key) (ks : List Key) (
   pub runs-next : (d : At) → Runs hop (k ∷ ks) c → step hop k c ≡ some d → Runs hop ks d
   unfolding replay then peak onward
   runs-next d r e = record { last = r .last; goes = rw e at (r .goes); low = omega (arith, rw e at (r .low)) }
+
+pub runs-low : (hop : Key → ℕ → Option (ℕ × ℕ)) (ks : List Key) (p : Packet) → Runs hop ks (whereabouts p) → p .stack .height ≤ highest
+unfolding whereabouts height
+runs-low hop ks p r = omega (arith, here-low hop ks (whereabouts p), r .low, length-items (p .stack))
 
 -- ## By the links alone
 
@@ -73,8 +80,8 @@ abbrev outer : Key → ℕ
 outer (key l c x y) = y
 
 module _ (n p c : ℕ) (ls : List ℕ) (d : ℕ) (fs : List ℕ) (valid : Valid n p c ls d fs) where
-  pub links : Links c ls
-  links = record { room = valid .link-room; ends = λ i h. omega (arith, valid .link-to i h, valid .nodes) }
+  links-known : Links c ls
+  links-known = record { room = valid .link-room; ends = λ i h. omega (arith, valid .link-to i h, valid .nodes) }
 
   pub by-links : (k : Key) (v t w : ℕ) → hopOf n p c ls d fs k v ≡ some (t, w) → crossing c ls k v ≡ some (t, 0)
   unfolding hopOf netOf hop both crossing free
@@ -85,20 +92,21 @@ module _ (n p c : ℕ) (ls : List ℕ) (d : ℕ) (fs : List ℕ) (valid : Valid 
       go (some f) none e = absurd (Option·none-ne-some (t, w) e)
       go (some f) (some r) e = let g : r .0 ≡ t = ap (λ (m : ℕ × ℕ). m .0) (Option·some-injective (r .0, f + r .1) (t, w) e) in rw g
 
-  module _ (S a D b : ℕ) (q : List ℕ) (k w : ℕ) (few : k ≤ 4096) (route : Feasible (hopOf n p c ls d fs) S a D b (keysAt q k) w) where
-    pub route-runs : Runs (crossing c ls) (keysAt q k) (at S (a ∷ []) 0)
-    unfolding keysAt
-    route-runs =
-        let e = replay-free (hopOf n p c ls d fs) (crossing c ls) by-links (keysAt q k) S (a ∷ []) 0 D (b ∷ []) w (route .runs) in
-        record {
+  pub feasible-route : (S a D b : ℕ) (q : List ℕ) (k w : ℕ) → k ≤ longest → 4 * k ≤ length q → Feasible (hopOf n p c ls d fs) S a D b (keysAt q k) w → Route c ls q k S a
+  unfolding keysAt keyAt keyOf
+  feasible-route S a D b q k w few room f =
+      let e = replay-free (hopOf n p c ls d fs) (crossing c ls) by-links (keysAt q k) S (a ∷ []) 0 D (b ∷ []) w (f .runs) in
+      record {
+        links = links-known;
+        few = few;
+        room = room;
+        tops =
+            λ i h.
+            let t = used (hopOf n p c ls d fs) (λ m. outer m < p) (λ l c′ x y v u z g. steps-inside n p c ls d fs valid .inside l c′ x y v u z g .1) (keyAt q) 0 k S (a ∷ []) 0 (at D (b ∷ []) w) (f .runs) i h in
+            omega (arith, rw (zero-add i) at t, valid .protocols);
+        runs = record {
           last = at D (b ∷ []) 0;
           goes = e;
           low = peak-half (crossing c ls) S a D b (keysAt q k) 0 (record { runs = e }) (omega (arith, length-rows (keyAt q) 0 k));
-        }
-
-    -- the protocols that a step puts on top
-    pub route-tops : (i : ℕ) → i < k → getD q (i * 4 + 3) 0 < 256
-    unfolding keysAt keyAt keyOf
-    route-tops i h =
-        let e = used (hopOf n p c ls d fs) (λ m. outer m < p) (λ l c′ x y v u z e. steps-inside n p c ls d fs valid .inside l c′ x y v u z e .1) (keyAt q) 0 k S (a ∷ []) 0 (at D (b ∷ []) w) (route .runs) i h in
-        omega (arith, rw (zero-add i) at e, valid .protocols)
+        };
+      }

@@ -1,14 +1,16 @@
 -- Where a packet is during a replay, and the steps that the links alone allow. Assumes nothing: these are definitions.
-use Prim.Native.Nat.{ℕ, _*_, _<_, _≤_}
+use Prim.Native.Nat.{ℕ, _+_, _*_, _<_, _≤_}
 use mathlib.Core.Path.{_≡_}
-use mathlib.Core.List.{List}
+use mathlib.Core.List.{List, [], _∷_}
 use mathlib.Core.Option.{Option, none, some}
-use lib.ListN.{length}
+use lib.ListN.{length, getD}
+use Rattle.paper.specs.Limits.{longest}
 use Rattle.paper.specs.Net.{Key, key, across}
 use Rattle.paper.specs.Route.{At, at, step, replay}
 use Rattle.laws.specs.Peak.{height, peak}
 use Rattle.records.specs.Columns.{to, linkRows}
 use Rattle.stack.specs.Items.{items, highest}
+use Rattle.replay.specs.Keys.{keysAt}
 use Rattle.replay.specs.declared.packet.Packet.{Packet}
 
 -- the node that a link leads to, or 0 where there is no such link
@@ -45,3 +47,11 @@ pub record Runs (hop : Key → ℕ → Option (ℕ × ℕ)) (ks : List Key) (c :
 pub record Links (c : ℕ) (ls : List ℕ) : Type 0 where
   pub room : c * 4 ≤ length ls
   pub ends : (i : ℕ) → i < c → to ls i < 256
+
+-- the first k entries by four of the step room q are a route from node v with a stack holding only a, as its links lead
+pub record Route (c : ℕ) (ls q : List ℕ) (k v a : ℕ) : Type 0 where
+  pub links : Links c ls
+  pub few : k ≤ longest
+  pub room : 4 * k ≤ length q
+  pub tops : (i : ℕ) → i < k → getD q (i * 4 + 3) 0 < 256
+  pub runs : Runs (crossing c ls) (keysAt q k) (at v (a ∷ []) 0)

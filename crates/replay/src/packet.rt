@@ -19,7 +19,7 @@ pub struct Packet {
 pub fn stepped(links: &[u32], c: usize, key: [u16; 4], p: Packet) -> Packet
     requires { ⌜ Links c (now links) ⌝ }
     requires { ⌜ (getD key 3 0 < 256) × Allowed (crossing c (now links)) (keyOf key) (whereabouts p) ⌝ }
-    ensures { λ r. ⌜ step (crossing c (now (links .entry))) (keyOf key) (whereabouts p) ≡ some (whereabouts r) ⌝ }
+    ensures { λ r. ⌜ (step (crossing c (now (links .entry))) (keyOf key) (whereabouts p) ≡ some (whereabouts r)) × (r .node < 256) ⌝ }
 {
     let stack = p.stack;
     let node = p.node;

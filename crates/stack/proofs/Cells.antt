@@ -2,17 +2,16 @@
 -- Assumes nothing.
 use Prim.Native.Nat.{ℕ, zero, suc, _+_, _-_, _<_, _≤_}
 use mathlib.Core.Path.{_≡_, refl, ap}
-use mathlib.Core.Bool.{Bool, true, false, cond, _&&_}
 use mathlib.Core.List.{List, [], _∷_}
-use mathlib.Core.Option.{Option, none, some, Option·none-ne-some}
+use mathlib.Core.Option.{some, Option·none-ne-some}
 use native.Mathlib.Numerals.{add-one}
 use native.Mathlib.Omega.{arith}
-use lib.Dec.{eqb}
 use lib.ListN.{length, set}
 use lib.Seq.{getD-set-same, getD-set-other}
-use borrow.Author.Tests.{eqb-true, ne-eqb}
+use borrow.Author.Tests.{ne-eqb}
 use Rattle.paper.specs.Net.{Kind, conv, wrap, unwrap}
 use Rattle.paper.specs.Route.{act}
+use Rattle.laws.proofs.Parse.{conv-inv, wrap-inv, unwrap-inv}
 use Rattle.records.specs.Columns.{kindAt}
 use Rattle.stack.specs.declared.Stack.{Stack}
 use Rattle.stack.specs.Items.{below, items, beneath, acted}
@@ -56,22 +55,12 @@ kind-other k p q = rw (ne-eqb k 0 p, ne-eqb k 1 q)
 
 -- ## What `act` does where it allows
 
-allowed : (b : Bool) (s t : List ℕ) → cond {A = Option (List ℕ)} b (some s) none ≡ some t → (b ≡ true) × (s ≡ t)
-allowed true s t e = (refl, cc)
-allowed false s t e = absurd (Option·none-ne-some t e)
-
-and-both : (a b : Bool) → a && b ≡ true → (a ≡ true) × (b ≡ true)
-and-both true b e = (refl, e)
-and-both false b e = absurd (let z : _≡_ {A = ℕ} 0 1 = cc in omega arith)
-
 pub act-acted : (c : Kind) (x y : ℕ) (s t : List ℕ) → act c x y s ≡ some t → acted c y s ≡ t
 unfolding act acted beneath
 act-acted conv x y [] t e = absurd (Option·none-ne-some t e)
-act-acted conv x y (z ∷ s) t e = allowed (eqb z x) (y ∷ s) t e .1
+act-acted conv x y (z ∷ s) t e = conv-inv x y z s t e .1
 act-acted wrap x y [] t e = absurd (Option·none-ne-some t e)
-act-acted wrap x y (z ∷ s) t e = let a = allowed (eqb z x) (y ∷ x ∷ s) t e in let h : z ≡ x = eqb-true z x (a .0) in rw h (a .1)
+act-acted wrap x y (z ∷ s) t e = let i = wrap-inv x y z s t e in rw (i .0) (i .1)
 act-acted unwrap x y [] t e = absurd (Option·none-ne-some t e)
 act-acted unwrap x y (z ∷ []) t e = absurd (Option·none-ne-some t e)
-act-acted unwrap x y (z ∷ u ∷ s) t e =
-    let a = allowed (eqb z y && eqb u x) (x ∷ s) t e in
-    let h : u ≡ x = eqb-true u x (and-both (eqb z y) (eqb u x) (a .0) .1) in rw h (a .1)
+act-acted unwrap x y (z ∷ u ∷ s) t e = let i = unwrap-inv x y z u s t e in rw (i .1) (i .2)

@@ -30,8 +30,11 @@ reach-requires c κs = search needs
 returns : tie.Need-returns
 unfolding whereabouts
 returns c =
-    let b = c .before .before .before .before in let a = b .args in
-    leads (a .c) (now (a .links)) (a .t3) (a .p .node) (items (a .p .stack)) (items (c .before .step .result)) (c .reach .result) (b .pre .1 .1) (c .reach .ensures .0) (c .before .step .ensures)
+    let b = c .before .before .before .before in
+    let a = b .args in (
+      leads (a .c) (now (a .links)) (a .t3) (a .p .node) (items (a .p .stack)) (items (c .before .step .result)) (c .reach .result) (b .pre .1 .1) (c .reach .ensures .0) (c .before .step .ensures),
+      c .reach .ensures .1,
+    )
 
 pub stepped-spec : {M : Type 1} → statement M
 stepped-spec =
