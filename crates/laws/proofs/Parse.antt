@@ -77,7 +77,7 @@ module _ (hop : Key → ℕ → Option (ℕ × ℕ)) where
       go (some s) none a b e = absurd (Option·none-ne-some r e)
       go (some s) (some p) a b e = record { stack = s; to = p .0; cost = p .1; acts = a; hops = b; goes = e }
 
-conv-inv : (x y s : ℕ) (H S : List ℕ) → act conv x y (s ∷ H) ≡ some S → (s ≡ x) × (y ∷ H ≡ S)
+pub conv-inv : (x y s : ℕ) (H S : List ℕ) → act conv x y (s ∷ H) ≡ some S → (s ≡ x) × (y ∷ H ≡ S)
 unfolding act
 conv-inv x y s H S = go (eqb s x) refl
   where
@@ -85,7 +85,7 @@ conv-inv x y s H S = go (eqb s x) refl
     go true a e = (eqb→eq s x (true-T (eqb s x) a), cc)
     go false a e = absurd (Option·none-ne-some S e)
 
-wrap-inv : (x y s : ℕ) (H S : List ℕ) → act wrap x y (s ∷ H) ≡ some S → (s ≡ x) × (y ∷ x ∷ H ≡ S)
+pub wrap-inv : (x y s : ℕ) (H S : List ℕ) → act wrap x y (s ∷ H) ≡ some S → (s ≡ x) × (y ∷ x ∷ H ≡ S)
 unfolding act
 wrap-inv x y s H S = go (eqb s x) refl
   where
@@ -93,7 +93,7 @@ wrap-inv x y s H S = go (eqb s x) refl
     go true a e = (eqb→eq s x (true-T (eqb s x) a), cc)
     go false a e = absurd (Option·none-ne-some S e)
 
-unwrap-inv : (x y s z : ℕ) (H S : List ℕ) → act unwrap x y (s ∷ z ∷ H) ≡ some S → (s ≡ y) × (z ≡ x) × (x ∷ H ≡ S)
+pub unwrap-inv : (x y s z : ℕ) (H S : List ℕ) → act unwrap x y (s ∷ z ∷ H) ≡ some S → (s ≡ y) × (z ≡ x) × (x ∷ H ≡ S)
 unfolding act
 unwrap-inv x y s z H S = go (eqb s y) (eqb z x) refl refl
   where

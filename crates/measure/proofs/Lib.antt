@@ -1,0 +1,3 @@
+pub mod Dots
+pub mod Lines
+pub mod Tallies

@@ -1,0 +1,66 @@
+-- Laws of the stack's cells: what a store at the top does to the list of protocols; and that `acted` is what `act` does where it allows.
+-- Assumes nothing.
+use Prim.Native.Nat.{ℕ, zero, suc, _+_, _-_, _<_, _≤_}
+use mathlib.Core.Path.{_≡_, refl, ap}
+use mathlib.Core.List.{List, [], _∷_}
+use mathlib.Core.Option.{some, Option·none-ne-some}
+use native.Mathlib.Numerals.{add-one}
+use native.Mathlib.Omega.{arith}
+use lib.ListN.{length, set}
+use lib.Seq.{getD-set-same, getD-set-other}
+use borrow.Author.Tests.{ne-eqb}
+use Rattle.paper.specs.Net.{Kind, conv, wrap, unwrap}
+use Rattle.paper.specs.Route.{act}
+use Rattle.laws.proofs.Parse.{conv-inv, wrap-inv, unwrap-inv}
+use Rattle.records.specs.Columns.{kindAt}
+use Rattle.stack.specs.declared.Stack.{Stack}
+use Rattle.stack.specs.Items.{below, items, beneath, acted}
+
+-- ## Cells
+
+pub length-below : (cs : List ℕ) (h : ℕ) → length (below cs h) ≡ h
+unfolding below
+length-below cs zero = refl
+length-below cs (suc h) = ap suc (length-below cs h)
+
+pub length-items : (s : Stack) → length (items s) ≡ s .height
+unfolding items
+length-items s = length-below (s .cells) (s .height)
+
+-- a store above does not show
+below-set : (cs : List ℕ) (i v h : ℕ) → h ≤ i → below (set cs i v) h ≡ below cs h
+unfolding below
+below-set cs i v zero p = refl
+below-set cs i v (suc h) p = rw (getD-set-other cs i h v 0 (omega arith), below-set cs i v h (omega arith))
+
+pub below-push : (cs : List ℕ) (h v : ℕ) → h < length cs → below (set cs h v) (h + 1) ≡ v ∷ below cs h
+unfolding below
+below-push cs h v p = rw (add-one h, getD-set-same cs h v 0 p, below-set cs h v h (omega arith))
+
+pub below-retop : (cs : List ℕ) (h v : ℕ) → 1 ≤ h → h ≤ length cs → below (set cs (h - 1) v) h ≡ v ∷ beneath (below cs h)
+unfolding below beneath
+below-retop cs zero v p q = absurd (omega arith)
+below-retop cs (suc h) v p q = let e : suc h - 1 ≡ h = omega arith in rw (e, getD-set-same cs h v 0 q, below-set cs h v h (omega arith))
+
+pub below-pop : (cs : List ℕ) (h : ℕ) → 1 ≤ h → below cs (h - 1) ≡ beneath (below cs h)
+unfolding below beneath
+below-pop cs zero p = absurd (omega arith)
+below-pop cs (suc h) p = let e : suc h - 1 ≡ h = omega arith in rw e
+
+-- ## Kinds
+
+pub kind-other : (k : ℕ) → (k ≡ 0 → ⊥) → (k ≡ 1 → ⊥) → kindAt k ≡ unwrap
+unfolding kindAt
+kind-other k p q = rw (ne-eqb k 0 p, ne-eqb k 1 q)
+
+-- ## What `act` does where it allows
+
+pub act-acted : (c : Kind) (x y : ℕ) (s t : List ℕ) → act c x y s ≡ some t → acted c y s ≡ t
+unfolding act acted beneath
+act-acted conv x y [] t e = absurd (Option·none-ne-some t e)
+act-acted conv x y (z ∷ s) t e = conv-inv x y z s t e .1
+act-acted wrap x y [] t e = absurd (Option·none-ne-some t e)
+act-acted wrap x y (z ∷ s) t e = let i = wrap-inv x y z s t e in rw (i .0) (i .1)
+act-acted unwrap x y [] t e = absurd (Option·none-ne-some t e)
+act-acted unwrap x y (z ∷ []) t e = absurd (Option·none-ne-some t e)
+act-acted unwrap x y (z ∷ u ∷ s) t e = let i = unwrap-inv x y z u s t e in rw (i .1) (i .2)

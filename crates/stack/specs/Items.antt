@@ -1,0 +1,35 @@
+-- The packet's stack as a list of protocols, and what a function that is allowed does to it. Assumes nothing: these are definitions.
+use Prim.Native.Nat.{ℕ, zero, suc, _≤_}
+use mathlib.Core.List.{List, [], _∷_}
+use lib.ListN.{length, getD}
+use Rattle.paper.specs.Net.{Kind, conv, wrap, unwrap}
+use Rattle.stack.specs.declared.Stack.{Stack}
+
+-- the cells: a route of at most 4,096 steps meets no higher stack (`Depth.peak-half`)
+abbrev pub highest : ℕ
+highest = 2049
+
+-- the lowest h cells, the highest of them first
+unfoldable pub below : List ℕ → ℕ → List ℕ
+below cs zero = []
+below cs (suc h) = getD cs h 0 ∷ below cs h
+
+-- what the stack holds, its top first
+unfoldable pub items : Stack → List ℕ
+items s = below (s .cells) (s .height)
+
+unfoldable pub beneath : List ℕ → List ℕ
+beneath [] = []
+beneath (x ∷ s) = s
+
+-- what a function leaves of the stack s, where `act` allows it: y is its outer protocol
+unfoldable pub acted : Kind → ℕ → List ℕ → List ℕ
+acted conv y s = y ∷ beneath s
+acted wrap y s = y ∷ s
+acted unwrap y s = beneath s
+
+-- the stack has a top to act on, and its cells hold it before and after
+pub record Ready (c : Kind) (y : ℕ) (s : Stack) : Type 0 where
+  pub some : 1 ≤ s .height
+  pub held : s .height ≤ highest
+  pub room : length (acted c y (items s)) ≤ highest

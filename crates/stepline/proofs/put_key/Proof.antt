@@ -1,0 +1,81 @@
+use denote.Ref.{now}
+use Rattle.paper.specs.Text.{step-word}
+use Rattle.replay.specs.Keys.{keyOf}
+use Rattle.stepline.specs.Texts.{keyText}
+use Rattle.stepline.proofs.Pieces.{begin, fits, go-on, ended, keyPieces}
+use borrow.Author.Needs.{needs}
+use Rattle.stepline.proofs.put_key.Statement.{statement}
+use Rattle.stepline.proofs.put_key.Tie as tie
+
+slice-aggregate-put-word : tie.Need-slice-aggregate-put-word
+slice-aggregate-put-word c = search needs
+
+put-word-requires : tie.Need-put-word-requires
+unfolding keyText keyOf step-word
+put-word-requires c κs = let b = c .before .before .before in fits (begin (now (b .args .out)) (b .args .at) (keyPieces (b .args .t3))) (b .pre)
+
+array-read-put-field : tie.Need-array-read-put-field
+array-read-put-field c = search needs
+
+cast-put-field : tie.Need-cast-put-field
+cast-put-field c = search needs
+
+put-field-requires : tie.Need-put-field-requires
+unfolding keyText keyOf step-word
+put-field-requires c κs = let b = c .before .before .before .before .before .before .before in fits (go-on (begin (now (b .args .out)) (b .args .at) (keyPieces (b .args .t3))) (c .before .before .before .put-word .ensures)) (b .pre)
+
+array-read-put-kind : tie.Need-array-read-put-kind
+array-read-put-kind c = search needs
+
+put-kind-requires : tie.Need-put-kind-requires
+unfolding keyText keyOf step-word
+put-kind-requires c κs = let b = c .before .before .before .before .before .before .before .before .before .before .before in fits (go-on (go-on (begin (now (b .args .out)) (b .args .at) (keyPieces (b .args .t3))) (c .before .before .before .before .before .before .before .put-word .ensures)) (c .before .before .before .put-field .ensures)) (b .pre)
+
+array-read-put-field-2 : tie.Need-array-read-put-field-2
+array-read-put-field-2 c = search needs
+
+cast-put-field-2 : tie.Need-cast-put-field-2
+cast-put-field-2 c = search needs
+
+put-field-requires-2 : tie.Need-put-field-requires-2
+unfolding keyText keyOf step-word
+put-field-requires-2 c κs = let b = c .before .before .before .before .before .before .before .before .before .before .before .before .before .before .before in fits (go-on (go-on (go-on (begin (now (b .args .out)) (b .args .at) (keyPieces (b .args .t3))) (c .before .before .before .before .before .before .before .before .before .before .before .put-word .ensures)) (c .before .before .before .before .before .before .before .put-field .ensures)) (c .before .before .before .put-kind .ensures)) (b .pre)
+
+array-read-put-field-3 : tie.Need-array-read-put-field-3
+array-read-put-field-3 c = search needs
+
+cast-put-field-3 : tie.Need-cast-put-field-3
+cast-put-field-3 c = search needs
+
+put-field-requires-3 : tie.Need-put-field-requires-3
+unfolding keyText keyOf step-word
+put-field-requires-3 c κs = let b = c .before .before .before .before .before .before .before .before .before .before .before .before .before .before .before .before .before .before .before in fits (go-on (go-on (go-on (go-on (begin (now (b .args .out)) (b .args .at) (keyPieces (b .args .t3))) (c .before .before .before .before .before .before .before .before .before .before .before .before .before .before .before .put-word .ensures)) (c .before .before .before .before .before .before .before .before .before .before .before .put-field .ensures)) (c .before .before .before .before .before .before .before .put-kind .ensures)) (c .before .before .before .put-field2 .ensures)) (b .pre)
+
+same-length : tie.Need-same-length
+same-length c = search needs
+
+returns : tie.Need-returns
+unfolding keyText keyOf step-word
+returns c =
+    let b = c .before .before .before .before .before .before .before .before .before .before .before .before .before .before .before .before .before .before .before .before .before .before in
+    ended (go-on (go-on (go-on (go-on (go-on (begin (now (b .args .out)) (b .args .at) (keyPieces (b .args .t3))) (c .before .before .before .before .before .before .before .before .before .before .before .before .before .before .before .before .before .before .put-word .ensures)) (c .before .before .before .before .before .before .before .before .before .before .before .before .before .before .put-field .ensures)) (c .before .before .before .before .before .before .before .before .before .before .put-kind .ensures)) (c .before .before .before .before .before .before .put-field2 .ensures)) (c .before .before .put-field3 .ensures))
+
+pub put-key-spec : {M : Type 1} → statement M
+put-key-spec =
+    tie.close
+    (tie.spec
+    slice-aggregate-put-word
+    put-word-requires
+    array-read-put-field
+    cast-put-field
+    put-field-requires
+    array-read-put-kind
+    put-kind-requires
+    array-read-put-field-2
+    cast-put-field-2
+    put-field-requires-2
+    array-read-put-field-3
+    cast-put-field-3
+    put-field-requires-3
+    same-length
+    returns)

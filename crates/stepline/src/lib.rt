@@ -1,0 +1,107 @@
+// One step line: the key, the node reached, and the stack after the step, bottom first.
+ghost use mathlib.Core.Path.{_≡_};
+ghost use mathlib.Core.List.{_∷_};
+ghost use Prim.Native.Nat.{_+_, _≤_, _<_};
+ghost use lib.ListN.{length, getD};
+ghost use Rattle.paper.specs.Text.{decimal};
+ghost use Rattle.paper.specs.Normal.{kindWord};
+ghost use Rattle.paper.specs.Trace.{dotted, stepLine};
+ghost use Rattle.records.specs.Columns.{kindAt};
+ghost use Rattle.digits.specs.Write.{Put};
+ghost use Rattle.stack.specs.Items.{below, items, highest};
+ghost use Rattle.replay.specs.Keys.{keyOf};
+ghost use Rattle.replay.specs.Packet.{whereabouts};
+ghost use Rattle.stepline.specs.Texts.{cellText, keyText, endText, Shown};
+use digits::write::put_byte;
+use digits::write::put_field;
+use digits::write::put_number;
+use digits::write::put_word;
+use digits::write::put_word_field;
+use replay::packet::Packet;
+use stack::Stack;
+
+fn wide(x: u8) -> u32
+    ensures { λ r. ⌜ r ≡ x ⌝ }
+{
+    x as u32
+}
+
+// The protocol n of cell h: all but the lowest have a dot before them.
+fn put_cell(out: &mut [u8], at: usize, h: usize, n: u32) -> usize
+    requires { ⌜ at + length (cellText h n) ≤ length (now out) ⌝ }
+    ensures { λ r. ⌜ Put (now (out .entry)) (now (out .exit)) at r (cellText h n) ⌝ }
+{
+    if h == 0 {
+        return put_number(out, at, n);
+    }
+    let i = put_byte(out, at, 46);
+    put_number(out, i, n)
+}
+
+// The lowest cells, from the bottom up.
+fn put_cells(out: &mut [u8], at: usize, cells: &[u8], height: usize) -> usize
+    requires { ⌜ (height ≤ length (now cells)) × (at + length (dotted (below (now cells) height)) ≤ length (now out)) ⌝ }
+    ensures { λ r. ⌜ Put (now (out .entry)) (now (out .exit)) at r (dotted (below (now (cells .entry)) height)) ⌝ }
+{
+    let mut i = at;
+    let mut h: usize = 0;
+    while h < height {
+        i = put_cell(out, i, h, wide(cells[h]));
+        h += 1;
+    }
+    i
+}
+
+// A tab and the stack.
+fn put_stack(out: &mut [u8], at: usize, s: Stack) -> usize
+    requires { ⌜ (s .height ≤ highest) × (at + length (9 ∷ dotted (items s)) ≤ length (now out)) ⌝ }
+    ensures { λ r. ⌜ Put (now (out .entry)) (now (out .exit)) at r (9 ∷ dotted (items s)) ⌝ }
+{
+    let cells = s.cells;
+    let height = s.height;
+    let i = put_byte(out, at, 9);
+    put_cells(out, i, &cells, height)
+}
+
+// A tab and the kind word.
+fn put_kind(out: &mut [u8], at: usize, kind: u16) -> usize
+    requires { ⌜ at + length (9 ∷ kindWord (kindAt kind)) ≤ length (now out) ⌝ }
+    ensures { λ r. ⌜ Put (now (out .entry)) (now (out .exit)) at r (9 ∷ kindWord (kindAt kind)) ⌝ }
+{
+    if kind == 0 {
+        return put_word_field(out, at, b"conv");
+    }
+    if kind == 1 {
+        return put_word_field(out, at, b"wrap");
+    }
+    put_word_field(out, at, b"unwrap")
+}
+
+fn put_key(out: &mut [u8], at: usize, key: [u16; 4]) -> usize
+    requires { ⌜ at + length (keyText (keyOf key)) ≤ length (now out) ⌝ }
+    ensures { λ r. ⌜ Put (now (out .entry)) (now (out .exit)) at r (keyText (keyOf key)) ⌝ }
+{
+    let mut i = put_word(out, at, b"step");
+    i = put_field(out, i, key[0] as u32);
+    i = put_kind(out, i, key[1]);
+    i = put_field(out, i, key[2] as u32);
+    put_field(out, i, key[3] as u32)
+}
+
+fn put_end(out: &mut [u8], at: usize, p: Packet) -> usize
+    requires { ⌜ Shown p × (at + length (endText (whereabouts p)) ≤ length (now out)) ⌝ }
+    ensures { λ r. ⌜ Put (now (out .entry)) (now (out .exit)) at r (endText (whereabouts p)) ⌝ }
+{
+    let stack = p.stack;
+    let mut i = put_field(out, at, p.node as u32);
+    i = put_stack(out, i, stack);
+    put_byte(out, i, 10)
+}
+
+pub fn put_step(out: &mut [u8], at: usize, key: [u16; 4], p: Packet) -> usize
+    requires { ⌜ Shown p × (at + length (stepLine (keyOf key) (whereabouts p)) ≤ length (now out)) ⌝ }
+    ensures { λ r. ⌜ Put (now (out .entry)) (now (out .exit)) at r (stepLine (keyOf key) (whereabouts p)) ⌝ }
+{
+    let i = put_key(out, at, key);
+    put_end(out, i, p)
+}

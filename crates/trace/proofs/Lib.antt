@@ -1,0 +1,2 @@
+pub mod Replays
+pub mod Answers
