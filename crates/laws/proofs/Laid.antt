@@ -5,7 +5,8 @@ use Prim.Native.Nat.{ℕ, zero, suc, _+_, _<_, _≤_}
 use native.Mathlib.Nat.{add-zero}
 use native.Mathlib.Omega.{arith}
 use lib.ListN.{length, getD, set, length-set}
-use lib.Seq.{length-sets, getD-set-same, getD-set-other}
+use native.Mathlib.Decide.{decLt}
+use lib.Seq.{length-sets, getD-set-same, getD-set-other, ext-getD}
 use Rattle.paper.specs.Rooms.{laid}
 
 pub laid-none : (d : List ℕ) (i : ℕ) → laid d i [] ≡ d
@@ -56,3 +57,14 @@ laid-there d i (v ∷ s) zero h g = rw (add-zero i) (laid-before (set d i v) (su
 laid-there d i (v ∷ s) (suc k) h g =
     let e : i + suc k ≡ suc i + k = omega arith in
     rw e (laid-there (set d i v) (suc i) s k (omega arith) (rw (length-set d i v) (omega arith)))
+
+-- laying the same text again changes nothing
+pub laid-again : (d : List ℕ) (s : List ℕ) → length s ≤ length d → laid (laid d 0 s) 0 s ≡ laid d 0 s
+laid-again d s h =
+    ext-getD 0 (laid (laid d 0 s) 0 s) (laid d 0 s) (length-laid (laid d 0 s) 0 s) (λ k g. go k (decLt k (length s)))
+  where
+    go : (k : ℕ) → Dec (k < length s) → getD (laid (laid d 0 s) 0 s) k 0 ≡ getD (laid d 0 s) k 0
+    go k (yes l) =
+        let z : 0 + k ≡ k = omega arith in
+        rw z at (laid-there (laid d 0 s) 0 s k l (omega (arith, length-laid d 0 s)) ∙ sym (laid-there d 0 s k l (omega arith)))
+    go k (no l) = laid-past (laid d 0 s) 0 s k (omega arith)
