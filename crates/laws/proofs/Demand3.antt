@@ -159,6 +159,19 @@ record Started (h : Line) (k : Net) : Type 0 where
   sound : Sound k
   none-yet : body k ≡ []
 
+none-sound : (n p : ℕ) → netFits n p ≡ true → SoundAt n p [] []
+unfolding Sorted Mem
+none-sound n p e =
+    record {
+      fits = e;
+      links = tt;
+      funs = tt;
+      link-fits = λ l m. absurd m;
+      fun-fits = λ f m. absurd m;
+      few-links = omega arith;
+      few-funs = omega arith;
+    }
+
 started : (h : Line) (k : Net) → header (shape h) ≡ good k → Started h k
 unfolding shape header
 started (cut l) k e = absurd (let z : _≡_ {A = ℕ} 0 1 = cc in omega arith)
@@ -178,7 +191,7 @@ started (ended l) k e = go (shaped (fields l)) refl e
             subst (λ (j : Net). Started (ended l) j) i
             (record {
               first = unfold head in (ap ended (net-bytes n p l d t));
-              sound = record { fits = t; links = unfold Sorted in tt; funs = unfold Sorted in tt };
+              sound = none-sound n p t;
               none-yet = unfold body in refl;
             })
 

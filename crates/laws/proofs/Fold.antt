@@ -3,6 +3,7 @@
 use mathlib.Core.Path.{_≡_, refl, sym, ap, _∙_, subst}
 use mathlib.Core.Bool.{Bool, true, false, not, cond, true≢false}
 use mathlib.Core.List.{List, [], _∷_, _++_, map, append-assoc, append-nil}
+use mathlib.Core.Logic.{_⊎_, inl, inr}
 use Prim.Native.Nat.{ℕ, zero, suc, _+_, _<_, _≤_}
 use native.Mathlib.Omega.{arith}
 use lib.Dec.{eqb, leb, ltb}
@@ -13,7 +14,7 @@ use Rattle.paper.specs.Text.{Line, ended, cut, fields}
 use Rattle.paper.specs.File.{linkKey, funKey, netFits, linkFits, funFits, insert, given, Shape, misshapen, netLine, linkLine, funLine, shaped, shape, Kept, bad, good, header, put, onward, Judged, refused, accepted}
 use Rattle.laws.specs.Sets.{Mem, Alike, Perm, none, keep, swap, both}
 use Rattle.laws.proofs.Before.{Test, holds, fails, test, not-true}
-use Rattle.laws.proofs.Insert.{perm-refl, perm-sym, perm-middle, perm-front, perm-back, length-insert, insert-perm, Swapped, swapped, Sorted, sorted-insert}
+use Rattle.laws.proofs.Insert.{perm-refl, perm-sym, perm-middle, perm-front, perm-back, length-insert, insert-perm, Swapped, swapped, Sorted, mem-insert, sorted-insert}
 use Rattle.laws.proofs.Spelling.{not-eq}
 use Rattle.laws.proofs.Shapes.{linkBody, funBody, netBody, net-bytes, link-bytes, fun-bytes, net-range}
 
@@ -145,11 +146,22 @@ perm-map f (keep p) = keep (perm-map f p)
 perm-map f swap = swap
 perm-map f (both p q) = both (perm-map f p) (perm-map f q)
 
--- the header is in range, and the records are in order
+-- the header is in range, and the records are in order, in range and few
 pub record SoundAt (n p : ℕ) (ls : List Link) (fs : List Fun) : Type 0 where
   pub fits : netFits n p ≡ true
   pub links : Sorted linkKey ls
   pub funs : Sorted funKey fs
+  pub link-fits : (l : Link) → Mem l ls → linkFits n l ≡ true
+  pub fun-fits : (f : Fun) → Mem f fs → funFits n p f ≡ true
+  pub few-links : length ls ≤ 1024
+  pub few-funs : length fs ≤ 1024
+
+each-insert : {A : Type 0} (key : A → List ℕ) (b : A → Bool) (r : A) (ss : List A) → b r ≡ true → ((t : A) → Mem t ss → b t ≡ true) → (t : A) → Mem t (insert key r ss) → b t ≡ true
+each-insert key b r ss e h t m = go (mem-insert key t r ss m)
+  where
+    go : (t ≡ r) ⊎ Mem t ss → b t ≡ true
+    go (inl q) = rw q e
+    go (inr n) = h t n
 
 abbrev pub Sound : Net → Type 0
 Sound (net n p ls fs) = SoundAt n p ls fs
@@ -169,14 +181,32 @@ unfolding head body
 grown-at n p ls fs l t m s e (link-added r f g h) =
     let is = link-bytes n r l e (net-range n p (s .fits) .1) f in
     record {
-      sound = record { fits = s .fits; links = sorted-insert linkKey r ls g (s .links); funs = s .funs };
+      sound =
+          record {
+            fits = s .fits;
+            links = sorted-insert linkKey r ls g (s .links);
+            funs = s .funs;
+            link-fits = each-insert linkKey (linkFits n) r ls f (s .link-fits);
+            fun-fits = s .fun-fits;
+            few-links = omega (arith, length-insert linkKey r ls);
+            few-funs = s .few-funs;
+          };
       top = refl;
       lines = rw is (perm-back (map (λ f. ended (funBody f)) fs) (perm-map (λ l. ended (linkBody l)) (insert-perm linkKey r ls)));
     }
 grown-at n p ls fs l t m s e (fun-added r f g h) =
     let is = fun-bytes n p r l e (net-range n p (s .fits) .1) (net-range n p (s .fits) .3) f in
     record {
-      sound = record { fits = s .fits; links = s .links; funs = sorted-insert funKey r fs g (s .funs) };
+      sound =
+          record {
+            fits = s .fits;
+            links = s .links;
+            funs = sorted-insert funKey r fs g (s .funs);
+            link-fits = s .link-fits;
+            fun-fits = each-insert funKey (funFits n p) r fs f (s .fun-fits);
+            few-links = s .few-links;
+            few-funs = omega (arith, length-insert funKey r fs);
+          };
       top = refl;
       lines =
           rw is

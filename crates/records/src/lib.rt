@@ -4,7 +4,8 @@ ghost use Prim.Native.Nat.{_+_, _*_, _≤_};
 ghost use lib.ListN.{length};
 ghost use Rattle.records.specs.Columns.{number, from, to, toll, node, kind, xOf, yOf, fee};
 
-fn index(x: u32) -> usize
+// A number of 32 bits as an index or a count.
+pub fn index(x: u32) -> usize
     ensures { λ r. ⌜ r ≡ x ⌝ }
 {
     x as usize

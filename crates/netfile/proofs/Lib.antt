@@ -1,0 +1,4 @@
+pub mod Lines
+pub mod Told
+pub mod Turns
+pub mod File
