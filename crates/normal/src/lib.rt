@@ -1,2 +1,3 @@
 // The writer of normal files.
+pub mod file;
 pub mod lines;
