@@ -1,23 +1,43 @@
-// Files of document 01's lists, and damaged ones, read one after another. A line for each: what it is, number, line, n, p, links and functions.
+// Files of document 01's lists, and damaged ones, read one after another.
+// A line for each: what it is, number, line, n, p, links, functions, and the rows of the rooms where they are few.
 // The file `cases` holds the small ones: a name, LF, the file's bytes, the byte 30, LF.
 ghost use Prim.Native.Nat.{_≤_, _<_};
 ghost use lib.ListN.{length};
 use fields::find;
 use libc::STDOUT_FILENO;
+use netfile::Judgement;
 
 mod many;
+
+fn wide(x: u32) -> u64 {
+    x as u64
+}
 
 fn tell(n: u64) {
     io::write_all(STDOUT_FILENO, b"\t");
     io::print_decimal(STDOUT_FILENO, n);
 }
 
-fn wide(x: u32) -> u64 {
-    x as u64
+fn tell_judgement(j: Judgement) {
+    tell(wide(j.number));
+    tell(wide(j.line));
+    tell(j.n as u64);
+    tell(j.p as u64);
+    tell(j.links as u64);
+    tell(j.funs as u64);
 }
 
-// The first k entries of a room.
-fn show(room: &[u32], k: usize) {
+// How many entries n links take, and n functions, where they are few.
+fn link_entries(n: usize) -> usize {
+    if n < 16 { n * 4 } else { 0 }
+}
+
+fn fun_entries(n: usize) -> usize {
+    if n < 16 { n * 5 } else { 0 }
+}
+
+// The first k entries.
+fn tell_entries(room: &[u32], k: usize) {
     let mut i: usize = 0;
     while i < k {
         if i < room.len() {
@@ -27,44 +47,21 @@ fn show(room: &[u32], k: usize) {
     }
 }
 
-fn with_rooms(name: &[u8], file: &[u8], links: &mut [u32], funs: &mut [u32], rows: usize)
+fn with_rooms(file: &[u8], links: &mut [u32], funs: &mut [u32])
     requires { ⌜ (4096 ≤ length (now links)) × (5120 ≤ length (now funs)) ⌝ }
 {
     let j = netfile::read(file, links, funs);
-    io::write_all(STDOUT_FILENO, name);
-    tell(wide(j.number));
-    tell(wide(j.line));
-    tell(j.n as u64);
-    tell(j.p as u64);
-    tell(j.links as u64);
-    tell(j.funs as u64);
-    show(links, rows);
-    show(funs, rows);
-    io::write_all(STDOUT_FILENO, b"\n");
-}
-
-// Reads the file, and shows the first entries of each room.
-fn read(name: &[u8], file: &[u8], rows: usize) {
-    let mut links = [0u32; 4096];
-    let mut funs = [0u32; 5120];
-    with_rooms(name, file, &mut links, &mut funs, rows);
+    tell_judgement(j);
+    tell_entries(links, link_entries(j.links));
+    tell_entries(funs, fun_entries(j.funs));
 }
 
 pub fn one(name: &[u8], file: &[u8]) {
-    read(name, file, 0);
-}
-
-fn order() {
-    read(
-        b"A",
-        b"net\t4\t2\nlink\t10\t0\t1\t5\nlink\t11\t1\t2\t5\nlink\t12\t2\t3\t5\nfun\t0\tconv\t0\t0\t0\nfun\t1\tconv\t0\t1\t1\nfun\t1\twrap\t0\t1\t2\nfun\t2\tunwrap\t0\t1\t3\n",
-        20,
-    );
-    read(
-        b"A, another order",
-        b"net\t4\t2\nfun\t2\tunwrap\t0\t1\t3\nlink\t12\t2\t3\t5\nfun\t1\twrap\t0\t1\t2\nlink\t10\t0\t1\t5\nfun\t1\tconv\t0\t1\t1\nfun\t0\tconv\t0\t0\t0\nlink\t11\t1\t2\t5\n",
-        20,
-    );
+    let mut links = [0u32; 4096];
+    let mut funs = [0u32; 5120];
+    io::write_all(STDOUT_FILENO, name);
+    with_rooms(file, &mut links, &mut funs);
+    io::write_all(STDOUT_FILENO, b"\n");
 }
 
 // The file named from a up to n, whose bytes go from there up to e.
@@ -74,7 +71,7 @@ fn named(cases: &[u8], a: usize, n: usize, e: usize)
     one(&cases[a..n], &cases[n + 1..e]);
 }
 
-// The cases from a on, one after another.
+// The cases, one after another.
 fn all(cases: &[u8]) {
     let mut a: usize = 0;
     while a < cases.len() {
@@ -91,26 +88,22 @@ fn all(cases: &[u8]) {
     }
 }
 
-fn small() {
-    let mut cases = [0u8; 16384];
+fn small(room: &mut [u8]) {
     let fd = os::open_read(b"cases");
     if fd < 0 {
         return;
     }
-    let n = io::read_full(fd, &mut cases);
+    let n = io::read_full(fd, room);
     libc::close(fd);
-    all(&cases[0..n]);
-}
-
-fn nul() {
-    one(b"NUL", b"net\t1\x00\t1\n");
-    one(b"NUL line", b"net\t1\t1\n\x00\n");
+    all(&room[0..n]);
 }
 
 fn main() {
-    order();
-    small();
-    nul();
-    many::large();
-    many::records();
+    let mut room = [0u8; 65540];
+    small(&mut room);
+    one(b"NUL", b"net\t1\x00\t1\n");
+    one(b"NUL line", b"net\t1\t1\n\x00\n");
+    many::large(&mut room);
+    many::link_records(&mut room);
+    many::fun_records(&mut room);
 }
