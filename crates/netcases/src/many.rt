@@ -16,38 +16,35 @@ fn text(out: &mut [u8], at: usize, s: &[u8]) -> usize
     put_word(out, at, s)
 }
 
-// The number, where there is room for it.
-fn number(out: &mut [u8], at: usize, n: u32) -> usize
+// The text and a number, where there is room for them.
+fn numbered(out: &mut [u8], at: usize, s: &[u8], n: u32) -> usize
     requires { ⌜ at ≤ length (now out) ⌝ }
     ensures { λ r. ⌜ r ≤ length (now (out .exit)) ⌝ }
 {
-    if out.len() - at < width(n) {
-        return at;
+    let a = text(out, at, s);
+    if out.len() - a < width(n) {
+        return a;
     }
-    put_number(out, at, n)
+    put_number(out, a, n)
 }
 
 fn link(out: &mut [u8], at: usize, l: u32) -> usize
     requires { ⌜ at ≤ length (now out) ⌝ }
     ensures { λ r. ⌜ r ≤ length (now (out .exit)) ⌝ }
 {
-    let a = text(out, at, b"link\t");
-    let b = number(out, a, l);
-    text(out, b, b"\t255\t0\t1\n")
+    let a = numbered(out, at, b"link\t", l);
+    text(out, a, b"\t255\t0\t1\n")
 }
 
 // The function that i stands for among 256 nodes and 4 pairs of two protocols.
-fn function(out: &mut [u8], at: usize, i: u32, word: &[u8]) -> usize
+fn function(out: &mut [u8], at: usize, i: u32) -> usize
     requires { ⌜ at ≤ length (now out) ⌝ }
     ensures { λ r. ⌜ r ≤ length (now (out .exit)) ⌝ }
 {
-    let a = text(out, at, b"fun\t");
-    let b = number(out, a, i / 4 % 256);
-    let c = text(out, b, word);
-    let d = number(out, c, i / 2 % 2);
-    let e = text(out, d, b"\t");
-    let f = number(out, e, i % 2);
-    text(out, f, b"\t1000000000\n")
+    let a = numbered(out, at, b"fun\t", i / 4 % 256);
+    let b = numbered(out, a, b"\tconv\t", i / 2 % 2);
+    let c = numbered(out, b, b"\t", i % 2);
+    text(out, c, b"\t1000000000\n")
 }
 
 // Links of the numbers below n, the highest first.
@@ -71,27 +68,34 @@ fn functions(out: &mut [u8], at: usize, n: u32) -> usize
     let mut i: u32 = 0;
     let mut e = at;
     while i < n {
-        e = function(out, e, i, b"\tconv\t");
+        e = function(out, e, i);
         i += 1;
     }
     e
 }
 
-fn sized(name: &[u8], n: usize, out: &mut [u8]) {
+fn sized(name: &[u8], out: &mut [u8], n: usize) {
     if n <= out.len() {
-        let e = text(out, 0, b"net\t1\t1\n");
-        if e <= n {
-            crate::one(name, &out[0..n]);
-        }
+        crate::one(name, &out[0..n]);
     }
 }
 
-pub fn large() {
-    let mut out = [b'x'; 65540];
-    sized(b"65536 bytes", 65536, &mut out);
-    sized(b"65537 bytes", 65537, &mut out);
+fn fill(out: &mut [u8]) {
+    let mut i: usize = 0;
+    while i < out.len() {
+        out[i] = b'x';
+        i += 1;
+    }
 }
 
+pub fn large(out: &mut [u8]) {
+    fill(out);
+    text(out, 0, b"net\t1\t1\n");
+    sized(b"65536 bytes", out, 65536);
+    sized(b"65537 bytes", out, 65537);
+}
+
+// c links and d functions, and one line more.
 fn counted(name: &[u8], out: &mut [u8], c: u32, d: u32, more: &[u8]) {
     let a = text(out, 0, b"net\t256\t2\n");
     let b = links(out, a, c);
@@ -100,49 +104,39 @@ fn counted(name: &[u8], out: &mut [u8], c: u32, d: u32, more: &[u8]) {
     crate::one(name, &out[0..f]);
 }
 
-pub fn records() {
-    let mut out = [0u8; 65536];
-    counted(b"1024 links", &mut out, 1024, 0, &[0u8; 0]);
-    counted(b"1025 links", &mut out, 1024, 0, b"link\t1024\t0\t0\t0\n");
+pub fn link_records(out: &mut [u8]) {
+    counted(b"1024 links", out, 1024, 0, &[0u8; 0]);
+    counted(b"1025 links", out, 1024, 0, b"link\t1024\t0\t0\t0\n");
     counted(
         b"1025 links, the last number used",
-        &mut out,
+        out,
         1024,
         0,
         b"link\t1023\t0\t0\t0\n",
     );
     counted(
         b"1025 links, the last out of range",
-        &mut out,
+        out,
         1024,
         0,
         b"link\t1023\t256\t0\t0\n",
     );
-    counted(b"1024 functions", &mut out, 0, 1024, &[0u8; 0]);
-    counted(
-        b"1025 functions",
-        &mut out,
-        0,
-        1024,
-        b"fun\t0\twrap\t0\t0\t0\n",
-    );
+}
+
+pub fn fun_records(out: &mut [u8]) {
+    counted(b"1024 functions", out, 0, 1024, &[0u8; 0]);
+    counted(b"1025 functions", out, 0, 1024, b"fun\t0\twrap\t0\t0\t0\n");
     counted(
         b"1025 functions, the last given",
-        &mut out,
+        out,
         0,
         1024,
         b"fun\t255\tconv\t1\t1\t0\n",
     );
-    counted(
-        b"1024 links and 1024 functions",
-        &mut out,
-        1024,
-        1024,
-        &[0u8; 0],
-    );
+    counted(b"1024 links and 1024 functions", out, 1024, 1024, &[0u8; 0]);
     counted(
         b"1024 links and 1025 functions",
-        &mut out,
+        out,
         1024,
         1024,
         b"fun\t255\tunwrap\t1\t1\t0\n",

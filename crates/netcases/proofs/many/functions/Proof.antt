@@ -6,16 +6,13 @@ use Rattle.netcases.proofs.many.functions.Statement.{statement}
 use Rattle.netcases.proofs.many.functions.Tie as tie
 
 abbrev Inv-loop : tie.InvT-loop
-Inv-loop out₀ at n i₀ e₀ t6 out i e = (length out ≡ length out₀) × (e ≤ length out)
+Inv-loop out₀ at n i₀ e₀ out i e = (length out ≡ length out₀) × (e ≤ length out)
 
 abbrev μ-loop : tie.MeasureT-loop
-μ-loop out₀ at n i₀ e₀ t6 out i e = n - i
+μ-loop out₀ at n i₀ e₀ out i e = n - i
 
 loop-holds : tie.Need-loop-holds Inv-loop μ-loop
 loop-holds c = search needs
-
-slice-aggregate-function : tie.Need-slice-aggregate-function Inv-loop μ-loop
-slice-aggregate-function c = search needs
 
 function-requires : tie.Need-function-requires Inv-loop μ-loop
 function-requires c κs = search needs
@@ -42,7 +39,6 @@ functions-spec =
     Inv-loop
     μ-loop
     loop-holds
-    slice-aggregate-function
     function-requires
     add-i
     loop-less

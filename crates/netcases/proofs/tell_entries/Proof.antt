@@ -1,7 +1,7 @@
 use borrow.Author.Needs.{needs}
 use Prim.Native.Nat.{_≤_, _-_}
-use Rattle.netcases.proofs.show.Statement.{statement}
-use Rattle.netcases.proofs.show.Tie as tie
+use Rattle.netcases.proofs.tell_entries.Statement.{statement}
+use Rattle.netcases.proofs.tell_entries.Tie as tie
 
 abbrev Inv-loop : tie.InvT-loop
 Inv-loop room k i₀ i = i ≤ k
@@ -36,8 +36,8 @@ loop-again c = search needs
 returns : tie.Need-returns Inv-loop μ-loop
 returns c = search needs
 
-pub show-spec : {M : Type 1} → statement M
-show-spec =
+pub tell-entries-spec : {M : Type 1} → statement M
+tell-entries-spec =
     tie.close
     (tie.spec
     Inv-loop
