@@ -1,3 +1,4 @@
+-- The function, then the link. Assumes nothing.
 use denote.Ref.{now}
 use Rattle.stack.specs.Items.{items}
 use Rattle.replay.specs.Packet.{whereabouts}
