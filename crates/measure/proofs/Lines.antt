@@ -12,9 +12,10 @@ use Rattle.paper.specs.Normal.{kindWord}
 use Rattle.paper.specs.Trace.{dotted, stepLine, following, stepLines, trace}
 use Rattle.laws.specs.Peak.{height}
 use Rattle.laws.proofs.Parse.{stepped}
+use Rattle.stack.specs.Items.{highest}
 use Rattle.replay.specs.Packet.{Runs}
 use Rattle.replay.proofs.Routes.{runs-allowed, runs-next}
-use Rattle.measure.specs.Sizes.{lineSize}
+use Rattle.measure.specs.Sizes.{lineSize, most-line}
 use Rattle.measure.proofs.Dots.{decimal-most, dots-most}
 
 -- ## One line
@@ -29,7 +30,7 @@ word-most conv = omega arith
 word-most wrap = omega arith
 word-most unwrap = omega arith
 
-line-most : (k : Key) (d : At) → height d ≤ 2049 → length (stepLine k d) ≤ 43200
+line-most : (k : Key) (d : At) → height d ≤ highest → length (stepLine k d) ≤ most-line
 unfolding lineSize height
 line-most (key l c x y) (at v s w) h =
     omega (arith, line-size (key l c x y) v s w, decimal-most l, word-most c, decimal-most x, decimal-most y, decimal-most v, dots-most s)
@@ -41,7 +42,7 @@ module _ (hop : Key → ℕ → Option (ℕ × ℕ)) where
   unfolding stepLines following
   lines-next k ks c d e = rw e
 
-  pub lines-most : (ks : List Key) (c : At) → Runs hop ks c → length (stepLines hop ks c) ≤ 43200 * length ks
+  pub lines-most : (ks : List Key) (c : At) → Runs hop ks c → length (stepLines hop ks c) ≤ most-line * length ks
   unfolding stepLines
   lines-most [] c r = omega arith
   lines-most (k ∷ ks) c r =

@@ -27,11 +27,13 @@ gained (key l unwrap x y) = 0
 unfoldable pub lineSize : Key → ℕ → ℕ → ℕ
 lineSize (key l k x y) v m = 11 + length (decimal l) + length (kindWord k) + length (decimal x) + length (decimal y) + length (decimal v) + m
 
--- no stack's text is longer
+-- no stack's text is longer than this, no step line, nor all step lines together
 abbrev pub most-dots : ℕ
 most-dots = 43029
 
--- nor are all step lines together
+abbrev pub most-line : ℕ
+most-line = 43200
+
 abbrev pub most-lines : ℕ
 most-lines = 268435456
 

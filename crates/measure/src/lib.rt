@@ -2,14 +2,14 @@
 ghost use mathlib.Core.Path.{_≡_};
 ghost use mathlib.Core.List.{[], _∷_};
 ghost use Prim.Native.Nat.{_+_, _≤_, _<_};
-ghost use lib.ListN.{length, getD};
+ghost use lib.ListN.{length};
 ghost use Rattle.paper.specs.Route.{at};
 ghost use Rattle.paper.specs.Normal.{kindWord};
 ghost use Rattle.paper.specs.Trace.{stepLines, trace};
 ghost use Rattle.records.specs.Columns.{kindAt};
 ghost use Rattle.replay.specs.Keys.{keyOf, keysAt};
 ghost use Rattle.replay.specs.Packet.{crossing, Links, Route};
-ghost use Rattle.measure.specs.Sizes.{lost, gained, lineSize, most-dots, Countable, Counted};
+ghost use Rattle.measure.specs.Sizes.{lost, gained, lineSize, most-dots, most-line, Countable, Counted};
 use digits::write::width;
 use replay::keys::key_at;
 use replay::links::reach;
@@ -51,7 +51,7 @@ fn dots_after(key: [u16; 4], dots: usize) -> usize
 
 fn line_size(key: [u16; 4], node: usize, dots: usize) -> usize
     requires { ⌜ (node < 256) × (dots ≤ most-dots) ⌝ }
-    ensures { λ r. ⌜ (r ≡ lineSize (keyOf key) node dots) × (r ≤ 43200) ⌝ }
+    ensures { λ r. ⌜ (r ≡ lineSize (keyOf key) node dots) × (r ≤ most-line) ⌝ }
 {
     let a = width(key[0] as u32) + word_size(key[1]);
     let b = width(key[2] as u32) + width(key[3] as u32);

@@ -8,7 +8,7 @@ ghost use Rattle.replay.specs.Keys.{keyOf};
 ghost use Rattle.replay.specs.Packet.{crossing, whereabouts, Allowed, Links};
 use crate::links::reach;
 use stack::Stack;
-use stack::step;
+use stack::after_step;
 
 pub struct Packet {
     pub node: usize,
@@ -23,7 +23,7 @@ pub fn stepped(links: &[u32], c: usize, key: [u16; 4], p: Packet) -> Packet
 {
     let stack = p.stack;
     let node = p.node;
-    let after = step(stack, key[1], key[3] as u8);
+    let after = after_step(stack, key[1], key[3] as u8);
     let next = reach(links, c, key[0] as u32, node);
     Packet {
         node: next,

@@ -53,7 +53,13 @@ pub kind-other : (k : ℕ) → (k ≡ 0 → ⊥) → (k ≡ 1 → ⊥) → kindA
 unfolding kindAt
 kind-other k p q = rw (ne-eqb k 0 p, ne-eqb k 1 q)
 
--- ## What `act` does where it allows
+-- ## A step
+
+-- the stack s has become r by a function of the kind k with the outer protocol y
+abbrev pub Done : Stack → ℕ → ℕ → Stack → Type 0
+Done s k y r = items r ≡ acted (kindAt k) y (items s)
+
+-- `acted` is what `act` does where it allows
 
 pub act-acted : (c : Kind) (x y : ℕ) (s t : List ℕ) → act c x y s ≡ some t → acted c y s ≡ t
 unfolding act acted beneath

@@ -72,3 +72,21 @@ pub fn step(s: Stack, kind: u16, y: u8) -> Stack
     }
     pop(s)
 }
+
+// The step function: the stack that is lent to it is changed in place.
+pub fn step_in(s: &mut Stack, kind: u16, y: u8)
+    requires { ⌜ Ready (kindAt kind) y (now s) ⌝ }
+    ensures { λ _. ⌜ items (now (s .exit)) ≡ acted (kindAt kind) y (items (now (s .entry))) ⌝ }
+{
+    *s = step(*s, kind, y);
+}
+
+// The stack after a step. It lends its own to the step function, so that whoever calls it passes values.
+pub fn after_step(s: Stack, kind: u16, y: u8) -> Stack
+    requires { ⌜ Ready (kindAt kind) y s ⌝ }
+    ensures { λ r. ⌜ items r ≡ acted (kindAt kind) y (items s) ⌝ }
+{
+    let mut t = s;
+    step_in(&mut t, kind, y);
+    t
+}

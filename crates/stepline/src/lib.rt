@@ -2,8 +2,7 @@
 ghost use mathlib.Core.Path.{_≡_};
 ghost use mathlib.Core.List.{_∷_};
 ghost use Prim.Native.Nat.{_+_, _≤_, _<_};
-ghost use lib.ListN.{length, getD};
-ghost use Rattle.paper.specs.Text.{decimal};
+ghost use lib.ListN.{length};
 ghost use Rattle.paper.specs.Normal.{kindWord};
 ghost use Rattle.paper.specs.Trace.{dotted, stepLine};
 ghost use Rattle.records.specs.Columns.{kindAt};

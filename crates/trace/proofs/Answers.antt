@@ -1,6 +1,6 @@
 -- The two answers: the text goes into its room, or the room stays. Assumes nothing.
 use Prim.Native.Nat.{ℕ, _<_, _≤_}
-use mathlib.Core.Path.{_≡_}
+use mathlib.Core.Path.{_≡_, sym, _∙_}
 use mathlib.Core.Bool.{true, false}
 use mathlib.Core.List.{List}
 use lib.ListN.{length}
@@ -13,6 +13,7 @@ use Rattle.replay.specs.Keys.{keysAt}
 use Rattle.replay.specs.Packet.{crossing, Route}
 use Rattle.replay.proofs.Routes.{by-links, feasible-route}
 use Rattle.measure.proofs.Lines.{trace-free}
+use Rattle.trace.specs.declared.Traced.{Traced}
 use Rattle.trace.specs.Told.{Traceable, Told}
 
 no-room : (x t : List ℕ) → length x < length t → Told x x t (record { fits = false; length = 0 })
@@ -36,3 +37,7 @@ module _ {n p c : ℕ} {ls : List ℕ} {d : ℕ} {fs : List ℕ} {S a D b : ℕ}
     pub written-out : (y : List ℕ) (j : ℕ) → m ≤ length x → Put x y 0 j (trace (crossing c ls) S a (keysAt q k) w)
         → Told x y (trace (hopOf n p c ls d fs) S a (keysAt q k) w) (record { fits = true; length = m })
     written-out y j h put = rw (by-links-alone, is) (room x y (trace (crossing c ls) S a (keysAt q k) w) (rw is at h) (put .text))
+
+-- no second answer fits
+pub told-once : {x y z t : List ℕ} {r s : Traced} → Told x y t r → Told x z t s → (y ≡ z) × (r ≡ s)
+told-once a b = (a .text ∙ sym (b .text), λ i. record { fits = (a .fits ∙ sym (b .fits)) i; length = (a .bytes ∙ sym (b .bytes)) i })

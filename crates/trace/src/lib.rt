@@ -1,6 +1,4 @@
 // The trace of a route: a path line, then a line for each step with the node reached and the stack after it.
-ghost use mathlib.Core.Path.{_≡_};
-ghost use mathlib.Core.List.{[], _∷_};
 ghost use Rattle.paper.specs.Trace.{trace};
 ghost use Rattle.records.specs.Columns.{hopOf};
 ghost use Rattle.replay.specs.Keys.{keysAt};

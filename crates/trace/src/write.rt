@@ -2,6 +2,7 @@
 ghost use mathlib.Core.List.{[], _∷_};
 ghost use Prim.Native.Nat.{_+_, _≤_};
 ghost use lib.ListN.{length};
+ghost use Rattle.paper.specs.Limits.{longest};
 ghost use Rattle.paper.specs.Route.{at};
 ghost use Rattle.paper.specs.Text.{decimal, written, path-word};
 ghost use Rattle.paper.specs.Trace.{stepLines, trace};
@@ -18,7 +19,7 @@ use stack::holding;
 use stepline::put_step;
 
 fn put_path(out: &mut [u8], at: usize, weight: u32, steps: usize) -> usize
-    requires { ⌜ (steps ≤ 4096) × (at + length (written path-word (decimal weight ∷ decimal steps ∷ [])) ≤ length (now out)) ⌝ }
+    requires { ⌜ (steps ≤ longest) × (at + length (written path-word (decimal weight ∷ decimal steps ∷ [])) ≤ length (now out)) ⌝ }
     ensures { λ r. ⌜ Put (now (out .entry)) (now (out .exit)) at r (written path-word (decimal weight ∷ decimal steps ∷ [])) ⌝ }
 {
     let mut i = put_word(out, at, b"path");

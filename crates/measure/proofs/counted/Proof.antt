@@ -1,3 +1,4 @@
+-- One step counted in. Assumes nothing.
 use denote.Ref.{now}
 use Rattle.replay.specs.Keys.{keyOf}
 use Rattle.measure.specs.Sizes.{reached}

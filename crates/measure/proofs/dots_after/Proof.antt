@@ -1,3 +1,4 @@
+-- By the kind: what goes was there, what comes is counted. Assumes nothing.
 use native.Mathlib.Omega.{arith}
 use Rattle.measure.proofs.Dots.{by-conv, by-wrap, by-unwrap}
 use borrow.Author.Needs.{needs}

@@ -1,3 +1,4 @@
+-- The sizes of a step line's fields, added up. Assumes nothing.
 use native.Mathlib.Omega.{arith}
 use Rattle.replay.specs.Keys.{keyOf}
 use Rattle.measure.specs.Sizes.{lineSize}

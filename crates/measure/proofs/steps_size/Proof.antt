@@ -1,3 +1,4 @@
+-- The loop keeps: what is counted and the lines left make up all step lines. Assumes nothing.
 use Rattle.measure.proofs.Tallies.{Tallied, start, turn-countable, turn-counted, ended}
 use borrow.Author.Needs.{needs}
 use Prim.Native.Nat.{_-_, _≤_}

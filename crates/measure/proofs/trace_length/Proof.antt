@@ -1,3 +1,4 @@
+-- The path line, then the step lines. Assumes nothing.
 use native.Mathlib.Omega.{arith}
 use Rattle.measure.proofs.Tallies.{total-most, whole}
 use borrow.Author.Needs.{needs}

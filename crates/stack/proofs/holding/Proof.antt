@@ -1,3 +1,4 @@
+-- One cell is stored. Assumes nothing.
 use mathlib.Core.Path.{refl}
 use Rattle.stack.specs.Items.{items, below}
 use borrow.Author.Needs.{needs}

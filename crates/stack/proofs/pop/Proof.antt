@@ -1,3 +1,4 @@
+-- The height falls by one. Assumes nothing.
 use Rattle.stack.specs.Items.{items}
 use Rattle.stack.proofs.Cells.{below-pop}
 use borrow.Author.Needs.{needs}

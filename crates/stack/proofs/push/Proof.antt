@@ -1,3 +1,4 @@
+-- The cell above the top is stored. Assumes nothing.
 use native.Mathlib.Omega.{arith}
 use lib.ListN.{length-map}
 use Rattle.stack.specs.Items.{items}

@@ -1,3 +1,4 @@
+-- The top cell is stored over. Assumes nothing.
 use native.Mathlib.Omega.{arith}
 use lib.ListN.{length-map}
 use Rattle.stack.specs.Items.{items}

@@ -1,3 +1,4 @@
+-- By the kind: a new top, one protocol more, or one less. Assumes nothing.
 use native.Mathlib.Omega.{arith}
 use Rattle.records.specs.Columns.{kindAt}
 use Rattle.stack.specs.Items.{acted}

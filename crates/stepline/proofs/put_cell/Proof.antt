@@ -1,3 +1,4 @@
+-- With a dot before it or without. Assumes nothing.
 use Rattle.digits.proofs.Writing.{then}
 use Rattle.stepline.proofs.Dotted.{cell-lowest, cell-above}
 use borrow.Author.Needs.{needs}

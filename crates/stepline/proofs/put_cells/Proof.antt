@@ -1,3 +1,4 @@
+-- The loop keeps: the text of the lowest h cells is written. Assumes nothing.
 use denote.Ref.{now}
 use Rattle.stepline.proofs.Pieces.{put-size}
 use Rattle.stepline.proofs.Dotted.{cell-fits, cell-put, all-cells, no-cells}

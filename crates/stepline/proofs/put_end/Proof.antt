@@ -1,3 +1,4 @@
+-- Two fields and the LF, one piece after another. Assumes nothing.
 use native.Mathlib.Omega.{arith}
 use denote.Ref.{now}
 use Rattle.stack.specs.Items.{items}

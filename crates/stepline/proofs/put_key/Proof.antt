@@ -1,3 +1,4 @@
+-- The word and four fields, one piece after another. Assumes nothing.
 use denote.Ref.{now}
 use Rattle.paper.specs.Text.{step-word}
 use Rattle.replay.specs.Keys.{keyOf}

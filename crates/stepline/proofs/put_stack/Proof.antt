@@ -1,3 +1,4 @@
+-- A tab, then the cells. Assumes nothing.
 use native.Mathlib.Omega.{arith}
 use lib.ListN.{length-map}
 use Rattle.stack.specs.Items.{items}

@@ -1,3 +1,4 @@
+-- The key, then the rest. Assumes nothing.
 use mathlib.Core.List.{[], _∷_}
 use denote.Ref.{now}
 use Rattle.replay.specs.Keys.{keyOf}

@@ -1,3 +1,4 @@
+-- Too long, or written. Assumes nothing.
 use native.Mathlib.Omega.{arith}
 use denote.Ref.{now}
 use Rattle.trace.proofs.Answers.{known, too-long, written-out}

@@ -1,3 +1,4 @@
+-- Two fields of a link are compared. Assumes nothing.
 use borrow.Author.Needs.{needs}
 use Rattle.replay.proofs.links.leaves.Statement.{statement}
 use Rattle.replay.proofs.links.leaves.Tie as tie

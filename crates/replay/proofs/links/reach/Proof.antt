@@ -1,3 +1,4 @@
+-- The loop keeps: what the links from i on give is what all give. Assumes nothing.
 use mathlib.Core.Path.{_≡_, sym, ap, _∙_}
 use denote.Ref.{now}
 use Rattle.replay.specs.Packet.{end}

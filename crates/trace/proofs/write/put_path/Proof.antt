@@ -1,3 +1,4 @@
+-- The word, two fields and the LF, one piece after another. Assumes nothing.
 use native.Mathlib.Omega.{arith}
 use denote.Ref.{now}
 use Rattle.paper.specs.Text.{path-word}

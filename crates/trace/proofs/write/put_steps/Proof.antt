@@ -1,3 +1,4 @@
+-- The loop keeps: the packet has the steps from i on still to go, and their lines are left to write. Assumes nothing.
 use denote.Ref.{now}
 use Rattle.trace.proofs.Replays.{Replayed, start, turn-allowed, turn-shown, turn-put, finish}
 use borrow.Author.Needs.{needs}

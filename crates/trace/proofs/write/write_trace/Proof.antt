@@ -1,3 +1,4 @@
+-- The path line, then the step lines. Assumes nothing.
 use native.Mathlib.Omega.{arith}
 use denote.Ref.{now}
 use Rattle.digits.proofs.Writing.{then}
@@ -8,7 +9,7 @@ use Rattle.trace.proofs.write.write_trace.Statement.{statement}
 use Rattle.trace.proofs.write.write_trace.Tie as tie
 
 put-path-requires : tie.Need-put-path-requires
-put-path-requires c κs = let b = c .before .before .before .before in (b .pre .0 .few, omega (arith, trace-room (b .pre .0) (b .args .weight) (now (b .args .text)) (b .pre .1)))
+put-path-requires c κs = let b = c .before .before .before .before in (omega (arith, b .pre .0 .few), omega (arith, trace-room (b .pre .0) (b .args .weight) (now (b .args .text)) (b .pre .1)))
 
 put-steps-requires : tie.Need-put-steps-requires
 put-steps-requires c κs = let b = c .before .before .before .before .before .before .before .before in let p = c .before .before .before .put-path .ensures in (b .pre .0, omega (arith, trace-room (b .pre .0) (b .args .weight) (now (b .args .text)) (b .pre .1), p .next, put-size p))
