@@ -1,8 +1,8 @@
 use denote.Ref.{now}
-use Rattle.costs.proofs.Sums.{taken, left}
+use Rattle.costs.proofs.Stores.{taken, left}
 use borrow.Author.Needs.{needs}
-use Rattle.costs.proofs.lower.Statement.{statement}
-use Rattle.costs.proofs.lower.Tie as tie
+use Rattle.costs.proofs.entry.lower.Statement.{statement}
+use Rattle.costs.proofs.entry.lower.Tie as tie
 
 read-requires : tie.Need-read-requires
 read-requires c κs = search needs
@@ -25,7 +25,7 @@ returns c =
     let r = c .before .before .before .before .before .before .before .before .before .read .ensures in
     let t = c .before .before .before .before .before .before .before .before .lighter in
     let s = c .before .before .before .before .put .ensures in
-    taken (now (a .weight)) (now (a .count)) _ _ (a .i) (a .c .weight) (a .c .steps) (a .fell) (t .result) (c .before .before .before .before .before .before .before .if1 .taken) (rw (← r .0, ← r .1) (t .ensures)) (s .0) (s .1)
+    taken (now (a .weight)) (now (a .count)) _ _ (a .i) (a .e .weight) (a .e .count) (a .fell) (t .result) (c .before .before .before .before .before .before .before .if1 .taken) (rw (← r .0, ← r .1) (t .ensures)) (s .0) (s .1)
 
 same-length-3 : tie.Need-same-length-3
 same-length-3 c = search needs
@@ -38,7 +38,7 @@ returns-2 c =
     let a = c .before .before .before .before .before .before .before .args in
     let r = c .before .before .read .ensures in
     let t = c .before .lighter in
-    left (now (a .weight)) (now (a .count)) (a .i) (a .c .weight) (a .c .steps) (a .fell) (t .result) (c .if1 .left) (rw (← r .0, ← r .1) (t .ensures))
+    left (now (a .weight)) (now (a .count)) (a .i) (a .e .weight) (a .e .count) (a .fell) (t .result) (c .if1 .left) (rw (← r .0, ← r .1) (t .ensures))
 
 pub lower-spec : {M : Type 1} → statement M
 lower-spec =

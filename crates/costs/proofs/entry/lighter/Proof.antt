@@ -1,7 +1,7 @@
 use Rattle.costs.specs.Cells.{less}
 use mathlib.Core.Path.{refl}
-use Rattle.costs.proofs.lighter.Statement.{statement}
-use Rattle.costs.proofs.lighter.Tie as tie
+use Rattle.costs.proofs.entry.lighter.Statement.{statement}
+use Rattle.costs.proofs.entry.lighter.Tie as tie
 
 returns : tie.Need-returns
 unfolding less

@@ -1,4 +1,4 @@
--- What lowering entries keeps and brings: the entries stay such as A says, none rises, those past the limit stay, and a measure falls.
+-- The rooms, whose entries only fall: each stays the spelling of a value that is as A says, those past the limit stay, and a measure falls.
 -- Assumes nothing.
 use Prim.Native.Nat.{ℕ, zero, suc, _+_, _*_, _<_, _≤_}
 use mathlib.Core.Path.{_≡_, refl, _∙_}
@@ -7,17 +7,16 @@ use mathlib.Core.List.{List, [], _∷_}
 use mathlib.Core.Logic.{_⊎_, inl, inr, _≢_}
 use native.Mathlib.Omega.{arith}
 use native.Mathlib.Nat.{not-suc-le-zero, le-refl, le-of-suc-le-suc}
-use native.Mathlib.Decide.{ℕ-discrete, decLt}
-use borrow.Author.Tests.{eqb-true, eq-eqb}
-use lib.Dec.{eqb}
-use lib.ListN.{length, getD, set, length-set, length-replicate, getD-replicate}
+use native.Mathlib.Decide.{ℕ-discrete}
+use lib.ListN.{length, getD, set, length-set}
 use lib.Seq.{getD-set-same, getD-set-other}
-use Rattle.laws.specs.Value.{Value, never, Le, plus, heft, count}
+use Rattle.laws.specs.Value.{Value, Le, heft, count}
 use Rattle.laws.proofs.Cap.{le-refl-v, le-trans-v}
-use Rattle.costs.specs.Cells.{value, Spells, less, Cells, cells, valueAt, lowered, upto, blank}
-use Rattle.records.specs.Columns.{from, node}
-use Rattle.sweeps.specs.Row.{reached, composed, crossing, serving, scan}
-use Rattle.costs.proofs.Values.{Good, value-good, plus-good, count-small, less-true, less-le, not-less-le}
+use Rattle.costs.specs.Loop.{upto}
+use Rattle.costs.specs.Cells.{value, Spells, less, Cells, cells, valueAt, lowered}
+use Rattle.sweeps.specs.Row.{reached}
+use Rattle.sweeps.proofs.Loops as loops
+use Rattle.costs.proofs.Values.{Good, value-good, count-small, less-true, less-le, not-less-le}
 
 abbrev pub ws : Cells → List ℕ
 ws (cells W C b) = W
@@ -212,81 +211,11 @@ module _ (lim : ℕ) (A : ℕ → Value → Type 0) where
 
   -- ## A loop
 
-  module _ (f : ℕ → Cells → Cells) where
-    pub upto-step : (n : ℕ) → ((k : ℕ) → k < n → (s : Cells) → Held s → Step s (f k s)) → (s : Cells) → Held s → Step s (upto f n s)
-    unfolding upto
-    upto-step zero p s h = step-none s h
-    upto-step (suc n) p s h =
-        let a = upto-step n (λ k l. p k (omega arith)) s h in
-        step-then s (upto f n s) (f n (upto f n s)) a (p n (omega arith) (upto f n s) (a .held))
+  module _ (f : ℕ → Cells → Cells) (n : ℕ) (turns : (k : ℕ) → k < n → (s : Cells) → Held s → Step s (f k s)) where
+    pub upto-step : (s : Cells) → Held s → Step s (upto f n s)
+    upto-step = loops.upto-step Held Step step-none step-then (λ s t a. a .held) f n turns
 
     -- what one turn brings an entry down to, it stays down to
-    pub upto-hit : (n : ℕ) → ((k : ℕ) → k < n → (s : Cells) → Held s → Step s (f k s)) → (k i : ℕ) (e : Value) → k < n → i < lim
-        → ((s : Cells) → Held s → Le (val (f k s) i) e) → (s : Cells) → Held s → Le (val (upto f n s) i) e
-    unfolding upto
-    upto-hit zero p k i e l m q s h = absurd (not-suc-le-zero l)
-    upto-hit (suc n) p k i e l m q s h = go (decLt k n) (λ o. upto-hit n (λ j r. p j (omega arith)) k i e o m q s h)
-      where
-        before : Step s (upto f n s)
-        before = upto-step n (λ j r. p j (omega arith)) s h
-
-        go : Dec (k < n) → (k < n → Le (val (upto f n s) i) e) → Le (val (f n (upto f n s)) i) e
-        go (yes o) rec = le-trans-v _ (val (upto f n s) i) e (p n (omega arith) (upto f n s) (before .held) .below i m) (rec o)
-        go (no o) rec = let r : k ≡ n = omega arith in rw (← r) (q (upto f k s) (rw (← r) at (before .held)))
-
-  -- ## A row of the rooms
-
-  module _ (W C : List ℕ) (base n : ℕ) (c : Value) (fits : n ≤ lim) (a : (q : ℕ) → q < n → A q (plus c (valueAt W C (base + q)))) where
-    pub composed-step : (s : Cells) → Held s → Step s (composed W C base n c s)
-    unfolding composed
-    composed-step = upto-step _ n (λ q l. reached-step q _ (omega arith) (plus-good c (valueAt W C (base + q))) (a q l))
-
-    pub composed-hit : (q : ℕ) → q < n → (s : Cells) → Held s → Le (val (composed W C base n c s) q) (plus c (valueAt W C (base + q)))
-    unfolding composed
-    composed-hit q l =
-        upto-hit _ n (λ j m. reached-step j _ (omega arith) (plus-good c (valueAt W C (base + j))) (a j m)) q q _ l (omega arith)
-        (reached-hit q _ (omega arith) (plus-good c (valueAt W C (base + q))) (a q l))
-
-  -- ## A scan of the records
-
-  module _ (ls fs : List ℕ) (act : ℕ → ℕ → Cells → Cells) (test : ℕ → Bool) (nl nf : ℕ)
-      (a : (j i : ℕ) → j < nf → i < nl → test j ≡ true → from ls i ≡ node fs j → (s : Cells) → Held s → Step s (act j i s)) where
-    crossing-step : (j i : ℕ) → j < nf → i < nl → test j ≡ true → (s : Cells) → Held s → Step s (crossing ls fs act j i s)
-    unfolding crossing
-    crossing-step j i hj hi t s h = go (eqb (from ls i) (node fs j)) refl
-      where
-        go : (r : Bool) → eqb (from ls i) (node fs j) ≡ r → Step s (cond r (act j i s) s)
-        go true k = a j i hj hi t (eqb-true _ _ k) s h
-        go false k = step-none s h
-
-    serving-step : (j : ℕ) → j < nf → (s : Cells) → Held s → Step s (serving ls fs act test nl j s)
-    unfolding serving
-    serving-step j hj s h = go (test j) refl
-      where
-        go : (r : Bool) → test j ≡ r → Step s (cond r (upto (crossing ls fs act j) nl s) s)
-        go true k = upto-step (crossing ls fs act j) nl (λ i hi. crossing-step j i hj hi k) s h
-        go false k = step-none s h
-
-    pub scan-step : (s : Cells) → Held s → Step s (scan ls fs act test nl nf s)
-    unfolding scan
-    scan-step = upto-step _ nf serving-step
-
-    pub scan-hit : (j i q : ℕ) (e : Value) → j < nf → i < nl → test j ≡ true → from ls i ≡ node fs j → q < lim
-        → ((s : Cells) → Held s → Le (val (act j i s) q) e) → (s : Cells) → Held s → Le (val (scan ls fs act test nl nf s) q) e
-    unfolding scan serving crossing
-    scan-hit j i q e hj hi t f l p =
-        upto-hit _ nf serving-step j q e hj l
-        (λ s h. rw t (upto-hit (crossing ls fs act j) nl (λ k hk. crossing-step j k hj hk t) i q e hi l (λ r o. rw (eq-eqb _ _ f) (p r o)) s h))
-
-  -- ## The beginning
-
-  pub blank-held : (m : ℕ) → lim ≤ m → ((i : ℕ) → i < lim → A i never) → Held (blank m)
-  unfolding blank val valueAt value Good heft count
-  blank-held m h a =
-      record {
-        long-ws = rw (length-replicate {A = ℕ} m 4294967295) h;
-        long-cs = rw (length-replicate {A = ℕ} m 0) h;
-        good = λ i l. rw (getD-replicate {A = ℕ} m i 4294967295 0 (omega arith)) tt;
-        spelt = λ i l. rw (getD-replicate {A = ℕ} m i 4294967295 0 (omega arith), getD-replicate {A = ℕ} m i 0 0 (omega arith)) (record { of-weight = refl; of-count = refl });
-        is = λ i l. rw (getD-replicate {A = ℕ} m i 4294967295 0 (omega arith)) (a i l);
-      }
+    pub upto-hit : (k i : ℕ) (e : Value) → k < n → i < lim → ((s : Cells) → Held s → Le (val (f k s) i) e) → (s : Cells) → Held s → Le (val (upto f n s) i) e
+    upto-hit k i e h b =
+        loops.upto-hit Held Step step-none step-then (λ s t a. a .held) f n turns (λ s. Le (val s i) e) (λ s t a q. le-trans-v (val t i) (val s i) e (a .below i b) q) k h
