@@ -71,52 +71,52 @@ module _ (n p nl : ℕ) (ls : List ℕ) (nf : ℕ) (fs : List ℕ) (valid : Vali
     light : fee fs j + toll ls i ≤ 4294967296
     light = omega (arith, valid .fun-weight j hj, valid .link-weight i hi)
 
-    step-sized : Sized 1 (stepCost p nl ls nf fs j i)
+    step-sized : Sized 1 (stepCost ls fs j i)
     step-sized = sized-one (fee fs j + toll ls i) 1 light (omega arith)
 
-    pub step-worth : worth (stepCost p nl ls nf fs j i) ≡ cap (fee fs j + toll ls i) 1
+    pub step-worth : worth (stepCost ls fs j i) ≡ cap (fee fs j + toll ls i) 1
     step-worth = worth-one (fee fs j + toll ls i) 1 light (omega arith)
 
     step-place : place p (to ls i) (yOf fs j) < n * p
     step-place = place-lt n p (to ls i) (yOf fs j) (valid .link-to i hi) (valid .fun-y j hj)
 
   module _ (v x : ℕ) where
-    conv-is : (j i : ℕ) → j < nf → i < nl → suits fs v 0 x j ≡ true → leaves ls v i ≡ true → RowIs v x (place p (to ls i) (yOf fs j)) (worth (stepCost p nl ls nf fs j i))
+    conv-is : (j i : ℕ) → j < nf → i < nl → suits fs v 0 x j ≡ true → leaves ls v i ≡ true → RowIs v x (place p (to ls i) (yOf fs j)) (worth (stepCost ls fs j i))
     unfolding kindAt
     conv-is j i hj hi s l =
         let a = suits-true fs v 0 x j s in
         let k = step-at n p nl ls nf fs valid j i v 0 x hj hi (leaves-true ls v i l ∙ sym (a .0)) (a .0) (a .1) (a .2) in
         record {
-          at = λ u y hu hy e. numbered (λ t z. levels.Reached h v x t z (worth (stepCost p nl ls nf fs j i))) (to ls i) (yOf fs j) u y (valid .fun-y j hj) hy e
+          at = λ u y hu hy e. numbered (λ t z. levels.Reached h v x t z (worth (stepCost ls fs j i))) (to ls i) (yOf fs j) u y (valid .fun-y j hj) hy e
               (rw (step-worth j i hj hi) (levels.reached-conv h v x (number ls i) (yOf fs j) (to ls i) (fee fs j + toll ls i) k));
         }
 
-    wrap-is : (j i : ℕ) → j < nf → i < nl → suits fs v 1 x j ≡ true → leaves ls v i ≡ true → ExitIs v x (place p (to ls i) (yOf fs j)) (worth (stepCost p nl ls nf fs j i))
+    wrap-is : (j i : ℕ) → j < nf → i < nl → suits fs v 1 x j ≡ true → leaves ls v i ≡ true → ExitIs v x (place p (to ls i) (yOf fs j)) (worth (stepCost ls fs j i))
     unfolding kindAt
     wrap-is j i hj hi s l =
         let a = suits-true fs v 1 x j s in
         let k = step-at n p nl ls nf fs valid j i v 1 x hj hi (leaves-true ls v i l ∙ sym (a .0)) (a .0) (a .1) (a .2) in
         record {
-          at = λ u y hu hy e. numbered (λ t z. levels.Opened h v x t z (worth (stepCost p nl ls nf fs j i))) (to ls i) (yOf fs j) u y (valid .fun-y j hj) hy e
+          at = λ u y hu hy e. numbered (λ t z. levels.Opened h v x t z (worth (stepCost ls fs j i))) (to ls i) (yOf fs j) u y (valid .fun-y j hj) hy e
               (rw (step-worth j i hj hi) (levels.opened-wrap h v x (number ls i) (yOf fs j) (to ls i) (fee fs j + toll ls i) k));
         }
 
     -- the steps of kind k, whose worth is as A says
     module _ (m : ℕ) (some : 1 ≤ m) (A : ℕ → Value → Type 0) (k : ℕ)
-        (a : (j i : ℕ) → j < nf → i < nl → suits fs v k x j ≡ true → leaves ls v i ≡ true → A (place p (to ls i) (yOf fs j)) (worth (stepCost p nl ls nf fs j i))) where
-      crossing-fall : (j : ℕ) → j < nf → suits fs v k x j ≡ true → (i : ℕ) → i < nl → (l : List ℕ) → Local (n * p) m A l → Fall (n * p) m A l (crossing p nl ls nf fs v j i l)
+        (a : (j i : ℕ) → j < nf → i < nl → suits fs v k x j ≡ true → leaves ls v i ≡ true → A (place p (to ls i) (yOf fs j)) (worth (stepCost ls fs j i))) where
+      crossing-fall : (j : ℕ) → j < nf → suits fs v k x j ≡ true → (i : ℕ) → i < nl → (l : List ℕ) → Local (n * p) m A l → Fall (n * p) m A l (crossing p ls fs v j i l)
       unfolding crossing
       crossing-fall j hj s i hi l o = go (leaves ls v i) refl
         where
-          go : (b : Bool) → leaves ls v i ≡ b → Fall (n * p) m A l (cond b (lowerTo (place p (to ls i) (yOf fs j)) (stepCost p nl ls nf fs j i) l) l)
+          go : (b : Bool) → leaves ls v i ≡ b → Fall (n * p) m A l (cond b (lowerTo (place p (to ls i) (yOf fs j)) (stepCost ls fs j i) l) l)
           go true e = lower-fall (n * p) m A _ _ (step-place j i hj hi) (sized-more 1 m _ some (step-sized j i hj hi)) (a j i hj hi s e) l o
           go false e = fall-none (n * p) m A l o
 
-      serving-fall : (j : ℕ) → j < nf → (l : List ℕ) → Local (n * p) m A l → Fall (n * p) m A l (serving p nl ls nf fs v k x j l)
+      serving-fall : (j : ℕ) → j < nf → (l : List ℕ) → Local (n * p) m A l → Fall (n * p) m A l (serving p nl ls fs v k x j l)
       unfolding serving
       serving-fall j hj l o = go (suits fs v k x j) refl
         where
-          go : (b : Bool) → suits fs v k x j ≡ b → Fall (n * p) m A l (cond b (upto (crossing p nl ls nf fs v j) nl l) l)
+          go : (b : Bool) → suits fs v k x j ≡ b → Fall (n * p) m A l (cond b (upto (crossing p ls fs v j) nl l) l)
           go true e = upto-fall (n * p) m A _ nl (crossing-fall j hj e) l o
           go false e = fall-none (n * p) m A l o
 
@@ -125,7 +125,7 @@ module _ (n p nl : ℕ) (ls : List ℕ) (nf : ℕ) (fs : List ℕ) (valid : Vali
       steps-fall = upto-fall (n * p) m A _ nf serving-fall
 
       steps-low : (j i : ℕ) → j < nf → i < nl → suits fs v k x j ≡ true → leaves ls v i ≡ true → (l : List ℕ) → Local (n * p) m A l
-          → getD (steps p nl ls nf fs v k x l) (place p (to ls i) (yOf fs j)) 0 ≤ stepCost p nl ls nf fs j i
+          → getD (steps p nl ls nf fs v k x l) (place p (to ls i) (yOf fs j)) 0 ≤ stepCost ls fs j i
       unfolding steps serving crossing
       steps-low j i hj hi s e =
           upto-low (n * p) m A _ nf serving-fall j _ _ hj (step-place j i hj hi)
@@ -174,7 +174,7 @@ module _ (n p nl : ℕ) (ls : List ℕ) (nf : ℕ) (fs : List ℕ) (valid : Vali
                 (ex .is _ (exit-place j hj) .at (node fs j) (yOf fs j) hn hy refl));
           }
 
-      closing-fall : (j : ℕ) → j < nf → (l : List ℕ) → Local n 3 (EndIs v x) l → Fall n 3 (EndIs v x) l (closing p nf fs x exits j l)
+      closing-fall : (j : ℕ) → j < nf → (l : List ℕ) → Local n 3 (EndIs v x) l → Fall n 3 (EndIs v x) l (closing p fs x exits j l)
       unfolding closing
       closing-fall j hj l o = go (eqb (kind fs j) 2 && eqb (xOf fs j) x) refl (leb far (exit j))
         where
@@ -222,7 +222,7 @@ module _ (n p nl : ℕ) (ls : List ℕ) (nf : ℕ) (fs : List ℕ) (valid : Vali
                 (en .is (from ls i) (valid .link-from i hi) .at i hi refl));
           }
 
-      landing-fall : (i : ℕ) → i < nl → (l : List ℕ) → Local (n * p) 4 (RowIs v x) l → Fall (n * p) 4 (RowIs v x) l (landing p nl ls x ends i l)
+      landing-fall : (i : ℕ) → i < nl → (l : List ℕ) → Local (n * p) 4 (RowIs v x) l → Fall (n * p) 4 (RowIs v x) l (landing p ls x ends i l)
       unfolding landing
       landing-fall i hi l o = go (leb far (getD ends (from ls i) 0))
         where
@@ -321,7 +321,7 @@ module _ (n p nl : ℕ) (ls : List ℕ) (nf : ℕ) (fs : List ℕ) (valid : Vali
     reach-conv j i hj hi a b c f =
         let s = steps-low v x 4 (omega arith) (RowIs v x) 0 (conv-is v x) j i hj hi (suits-yes fs v 0 x j a b c) (leaves-yes ls v i f) (blank 1024) (no-row 4) in
         let t = tunnels-fall (steps p nl ls nf fs v 0 x (blank 1024)) (convs-fall .local) .below (place p (to ls i) (yOf fs j)) (step-place j i hj hi) in
-        let u : getD (reach n p nl ls nf fs W C v x) (place p (to ls i) (yOf fs j)) 0 ≤ stepCost p nl ls nf fs j i = omega arith in
+        let u : getD (reach n p nl ls nf fs W C v x) (place p (to ls i) (yOf fs j)) 0 ≤ stepCost ls fs j i = omega arith in
         rw (step-worth j i hj hi) at (worth-le _ _ u)
 
     -- no more than a tunnel: a wrap (function j over link i), what is inside, an unwrap (function k over link m)
@@ -330,7 +330,7 @@ module _ (n p nl : ℕ) (ls : List ℕ) (nf : ℕ) (fs : List ℕ) (valid : Vali
       within-it = place p (to ls i) (yOf fs j) * (n * p) + place p (node fs k) (yOf fs k)
 
       abbrev whole : ℕ
-      whole = stepCost p nl ls nf fs j i + costAt W C within-it + (fee fs k * 65536 + 1) + (toll ls m * 65536 + 0)
+      whole = stepCost ls fs j i + costAt W C within-it + (fee fs k * 65536 + 1) + (toll ls m * 65536 + 0)
 
       within-lt : within-it < n * p * (n * p)
       within-lt = omega (arith, begin-le (n * p) (place p (to ls i) (yOf fs j)) (step-place j i hj hi), place-lt n p (node fs k) (yOf fs k) (valid .fun-node k hk) (valid .fun-y k hk))

@@ -43,42 +43,39 @@ module _ (W C : List ℕ) (size : ℕ) where
 
 -- ## Steps and tunnels from one place
 
-module _ (p nl : ℕ) (ls : List ℕ) (nf : ℕ) (fs : List ℕ) where
-  -- what function j over link i takes: one step
-  abbrev pub stepCost : (j i : ℕ) → ℕ
-  stepCost j i = (fee fs j + toll ls i) * 65536 + 1
+-- what function j over link i takes: one step
+abbrev pub stepCost : (ls fs : List ℕ) (j i : ℕ) → ℕ
+stepCost ls fs j i = (fee fs j + toll ls i) * 65536 + 1
 
-  -- function j over link i, where that leaves v
-  unfoldable pub crossing : (v j i : ℕ) → List ℕ → List ℕ
-  crossing v j i a = cond (leaves ls v i) (lowerTo (place p (to ls i) (yOf fs j)) (stepCost j i) a) a
+-- function j over link i, where that leaves v
+unfoldable pub crossing : (p : ℕ) (ls fs : List ℕ) (v j i : ℕ) → List ℕ → List ℕ
+crossing p ls fs v j i a = cond (leaves ls v i) (lowerTo (place p (to ls i) (yOf fs j)) (stepCost ls fs j i) a) a
 
-  -- function j over each link of v, where it is one of v, of kind k, for x
-  unfoldable pub serving : (v k x j : ℕ) → List ℕ → List ℕ
-  serving v k x j a = cond (suits fs v k x j) (upto (crossing v j) nl a) a
+-- function j over each link of v, where it is one of v, of kind k, for x
+unfoldable pub serving : (p nl : ℕ) (ls fs : List ℕ) (v k x j : ℕ) → List ℕ → List ℕ
+serving p nl ls fs v k x j a = cond (suits fs v k x j) (upto (crossing p ls fs v j) nl a) a
 
-  unfoldable pub steps : (v k x : ℕ) → List ℕ → List ℕ
-  steps v k x = upto (serving v k x) nf
+unfoldable pub steps : (p nl : ℕ) (ls : List ℕ) (nf : ℕ) (fs : List ℕ) (v k x : ℕ) → List ℕ → List ℕ
+steps p nl ls nf fs v k x = upto (serving p nl ls fs v k x) nf
 
-module _ (p nf : ℕ) (fs : List ℕ) where
-  -- function j, where it unwraps what hides x, at an exit that something gets to; its link is yet to be crossed
-  unfoldable pub closing : (x : ℕ) (exits : List ℕ) (j : ℕ) → List ℕ → List ℕ
-  closing x exits j e =
-      cond (eqb (kind fs j) 2 && eqb (xOf fs j) x)
-      (cond (leb far (getD exits (place p (node fs j) (yOf fs j)) 0)) e
-      (lowerTo (node fs j) (getD exits (place p (node fs j) (yOf fs j)) 0 + (fee fs j * 65536 + 1)) e)) e
+-- function j, where it unwraps what hides x, at an exit that something gets to; its link is yet to be crossed
+unfoldable pub closing : (p : ℕ) (fs : List ℕ) (x : ℕ) (exits : List ℕ) (j : ℕ) → List ℕ → List ℕ
+closing p fs x exits j e =
+    cond (eqb (kind fs j) 2 && eqb (xOf fs j) x)
+    (cond (leb far (getD exits (place p (node fs j) (yOf fs j)) 0)) e
+    (lowerTo (node fs j) (getD exits (place p (node fs j) (yOf fs j)) 0 + (fee fs j * 65536 + 1)) e)) e
 
-  unfoldable pub closings : (x : ℕ) (exits : List ℕ) → List ℕ → List ℕ
-  closings x exits = upto (closing x exits) nf
+unfoldable pub closings : (p nf : ℕ) (fs : List ℕ) (x : ℕ) (exits : List ℕ) → List ℕ → List ℕ
+closings p nf fs x exits = upto (closing p fs x exits) nf
 
-module _ (p nl : ℕ) (ls : List ℕ) where
-  -- link i, from a node where a tunnel has been closed, under x
-  unfoldable pub landing : (x : ℕ) (ends : List ℕ) (i : ℕ) → List ℕ → List ℕ
-  landing x ends i a =
-      cond (leb far (getD ends (from ls i) 0)) a
-      (lowerTo (place p (to ls i) x) (getD ends (from ls i) 0 + (toll ls i * 65536 + 0)) a)
+-- link i, from a node where a tunnel has been closed, under x
+unfoldable pub landing : (p : ℕ) (ls : List ℕ) (x : ℕ) (ends : List ℕ) (i : ℕ) → List ℕ → List ℕ
+landing p ls x ends i a =
+    cond (leb far (getD ends (from ls i) 0)) a
+    (lowerTo (place p (to ls i) x) (getD ends (from ls i) 0 + (toll ls i * 65536 + 0)) a)
 
-  unfoldable pub landings : (x : ℕ) (ends : List ℕ) → List ℕ → List ℕ
-  landings x ends = upto (landing x ends) nl
+unfoldable pub landings : (p nl : ℕ) (ls : List ℕ) (x : ℕ) (ends : List ℕ) → List ℕ → List ℕ
+landings p nl ls x ends = upto (landing p ls x ends) nl
 
 -- ## Into the rooms
 
