@@ -1,2 +1,3 @@
-pub mod Sums
 pub mod Values
+pub mod Worth
+pub mod Stores

@@ -6,12 +6,23 @@ use mathlib.Core.Bool.{Bool, true, false, _&&_, _||_}
 use mathlib.Core.Logic.{_⊎_, inl, inr}
 use native.Mathlib.Omega.{arith}
 use native.Mathlib.Decide.{decLe}
-use borrow.Author.Tests.{ltb-true, ltb-false, eqb-true, eqb-false}
+use borrow.Author.Tests.{le-leb, lt-leb, ltb-true, ltb-false, eqb-true, eqb-false}
 use lib.Dec.{ltb, eqb}
 use Rattle.laws.specs.Value.{Value, within, over, never, cap, Le, plus, heft, count}
 use Rattle.laws.proofs.Cap.{cap-light, cap-heavy, plus-never}
 use Rattle.costs.specs.Cells.{value, less}
-use Rattle.costs.proofs.Sums.{value-light}
+
+pub value-light : (w s : ℕ) → w ≤ 4000000000 → value w s ≡ within w s
+unfolding value
+value-light w s h = rw (le-leb w 4000000000 h)
+
+value-over : (w s : ℕ) → 4000000000 < w → w ≤ 4294967294 → value w s ≡ over
+unfolding value
+value-over w s h k = rw (lt-leb w 4000000000 h, le-leb w 4294967294 k)
+
+value-never : (w s : ℕ) → 4294967294 < w → value w s ≡ never
+unfolding value
+value-never w s h = let g : 4000000000 < w = omega arith in rw (lt-leb w 4000000000 g, lt-leb w 4294967294 h)
 
 -- what two entries can spell
 unfoldable pub Good : Value → Type 0
@@ -99,6 +110,27 @@ less-le e f a b h = spelt-le e f a b (go (less-true _ _ _ _ h))
 
 pub not-less-le : (e f : Value) → Good e → Good f → less (heft e) (count e) (heft f) (count f) ≡ false → Le f e
 not-less-le e f a b h = spelt-le f e b a (less-false _ _ _ _ h)
+
+pub le-spelt : (e f : Value) → Good e → Good f → Le e f → (heft e < heft f) ⊎ ((heft e ≡ heft f) × (count e ≤ count f))
+unfolding Good heft count Le
+le-spelt (within w s) (within v r) a b h = h
+le-spelt (within w s) over a b h = inl (omega arith)
+le-spelt (within w s) never a b h = inl (omega arith)
+le-spelt over (within v r) a b h = absurd h
+le-spelt over over a b h = inr (refl, omega arith)
+le-spelt over never a b h = inl (omega arith)
+le-spelt never (within v r) a b h = absurd h
+le-spelt never over a b h = absurd h
+le-spelt never never a b h = inr (refl, omega arith)
+
+pub less-strict : (e f : Value) → Good e → Good f → less (heft e) (count e) (heft f) (count f) ≡ true → Le f e → ⊥
+less-strict e f a b h l = go (less-true _ _ _ _ h) (le-spelt f e b a l)
+  where
+    go : (heft e < heft f) ⊎ ((heft e ≡ heft f) × (count e < count f)) → (heft f < heft e) ⊎ ((heft f ≡ heft e) × (count f ≤ count e)) → ⊥
+    go (inl x) (inl y) = omega arith
+    go (inl x) (inr y) = omega arith
+    go (inr x) (inl y) = omega arith
+    go (inr x) (inr y) = omega arith
 
 -- only the mark spells `never`
 pub never-heft : (w s : ℕ) → w ≡ 4294967295 → value w s ≡ never

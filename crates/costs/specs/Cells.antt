@@ -1,12 +1,12 @@
--- Two rooms of one length, weights and counts, as a table of values; what a store does to them.
+-- The weight and count rooms as a table of values, and what a store does to them.
 -- Assumes nothing: these are definitions.
-use Prim.Native.Nat.{ℕ, zero, suc}
+use Prim.Native.Nat.{ℕ}
 use mathlib.Core.Path.{_≡_}
-use mathlib.Core.Bool.{Bool, true, false, cond, _&&_, _||_}
+use mathlib.Core.Bool.{Bool, true, cond, _&&_, _||_}
 use mathlib.Core.List.{List}
 use lib.Dec.{leb, ltb, eqb}
-use lib.ListN.{getD, set, replicate}
-use Rattle.paper.specs.Limits.{heaviest, over-mark, never-mark}
+use lib.ListN.{getD, set}
+use Rattle.paper.specs.Limits.{heaviest, over-mark}
 use Rattle.laws.specs.Value.{Value, within, over, never, heft, count}
 
 -- the value that two entries stand for
@@ -35,12 +35,3 @@ stored i w s (cells W C b) = cells (set W i w) (set C i s) b
 -- stored where that lowers the entry
 unfoldable pub lowered : (i w s : ℕ) → Cells → Cells
 lowered i w s (cells W C b) = cond (less w s (getD W i 0) (getD C i 0)) (cells (set W i w) (set C i s) true) (cells W C b)
-
--- f 0, then f 1, up to f (n - 1)
-unfoldable pub upto : (ℕ → Cells → Cells) → ℕ → Cells → Cells
-upto f zero s = s
-upto f (suc n) s = f n (upto f n s)
-
--- m entries that say `never`
-unfoldable pub blank : ℕ → Cells
-blank m = cells (replicate m never-mark) (replicate m 0) false

@@ -1,31 +1,39 @@
--- The rooms before the first sweep, and from one sweep to the next.
--- Assumes nothing.
-use Prim.Native.Nat.{ℕ, zero, suc, _+_, _*_, _<_, _≤_}
-use mathlib.Core.Path.{_≡_, refl, sym, ap, _∙_}
-use mathlib.Core.Bool.{Bool, true, false, cond}
+-- The rooms before the first sweep, from one sweep to the next, and at the end.
+-- Main results: `begun`, `swept`, `filled`. Assumes nothing.
+use Prim.Native.Nat.{ℕ, zero, suc, _+_, _*_, _<_, _≤_, min}
+use mathlib.Core.Path.{_≡_, refl, sym, ap, subst, _∙_}
+use mathlib.Core.Bool.{Bool, true, false, cond, not, _&&_, _||_}
 use mathlib.Core.List.{List}
 use mathlib.Core.Logic.{_⊎_, inl, inr}
 use native.Mathlib.Omega.{arith}
 use native.Mathlib.Nat.{not-suc-le-zero}
 use native.Mathlib.Decide.{ℕ-discrete}
+use borrow.Author.Tests.{eqb-true, eq-eqb, ne-eqb}
+use lib.Dec.{eqb}
 use lib.ListN.{length, getD, set, length-set}
 use lib.Seq.{getD-set-same, getD-set-other}
+use Rattle.paper.specs.Net.{place}
+use Rattle.paper.proofs.Places.{place-lt}
 use Rattle.laws.specs.Value.{Value, within, never, Le, heft, count}
 use Rattle.laws.proofs.Cap.{le-trans-v, cap-light}
 use Rattle.laws.proofs.Depth.{digits}
-use Rattle.costs.specs.Cells.{value, Cells, cells, valueAt, stored, lowered, upto}
 use Rattle.records.specs.Columns.{hopOf}
 use Rattle.records.specs.Valid.{Valid}
-use Rattle.sweeps.specs.Row.{reached, row, sweep, cleared, diagonal}
+use Rattle.costs.specs.Loop.{upto}
+use Rattle.costs.specs.Cells.{value, Cells, cells, valueAt, stored, lowered}
+use Rattle.costs.proofs.Values.{Good, never-heft}
+use Rattle.sweeps.specs.Row.{reached, row}
+use Rattle.sweeps.specs.Sweep.{Stage, stage, stamped, turned, visited, nodeRows, sweep, cleared, diagonal}
 use Rattle.sweeps.specs.Filled.{Filled}
 use Rattle.sweeps.proofs.Corners.{begin-le}
-use Rattle.paper.proofs.Places.{place-lt}
-use Rattle.costs.proofs.Values.{Good, never-heft}
-use Rattle.sweeps.proofs.Steps.{ws, cs, fell, val, size, Held, Step, reached-step, reached-hit, upto-step, upto-hit}
-use Rattle.sweeps.proofs.Quiet.{sweep-quiet, not-both}
-use Rattle.sweeps.proofs.Rows.{PairIs, sweep-step, sweep-each}
-use Rattle.sweeps.proofs.Reach as reach
-use Rattle.sweeps.proofs.Exact.{Sound, exact, spelled}
+use Rattle.sweeps.proofs.Loops as loops
+use Rattle.sweeps.proofs.Tests.{and-true}
+use Rattle.sweeps.proofs.Lowering.{ws, cs, val, size, Held, Step, step-none, step-then, reached-step, reached-hit, upto-step, upto-hit}
+use Rattle.sweeps.proofs.Quiet.{not-both, dropped, turned-lt, sweep-quiet, sweep-each}
+use Rattle.sweeps.proofs.Ways.{PairIs}
+use Rattle.sweeps.proofs.Rows.{Rooms, row-step}
+use Rattle.sweeps.proofs.Reach as levels
+use Rattle.sweeps.proofs.Exact.{Sound, Still, exact, spelled}
 
 -- ## Entries that stay
 
@@ -109,7 +117,7 @@ module _ (n p nl : ℕ) (ls : List ℕ) (nf : ℕ) (fs : List ℕ) (valid : Vali
         long-cs = rw (k .kept .same-cs) hC;
         good = λ i l. rw (none i l) tt;
         spelt = λ i l. rw (none i l, k .never-ws i l, k .never-cs i l) (record { of-weight = refl; of-count = refl });
-        is = λ i l. rw (none i l) (record { at = λ v x u y hv hx hu hy e. reach.reached-never _ v x u y });
+        is = λ i l. rw (none i l) (record { at = λ v x u y hv hx hu hy e. levels.reached-never _ v x u y });
       }
     where
       k : Clear (n * p * (n * p)) s (cleared (n * p * (n * p)) s)
@@ -129,7 +137,7 @@ module _ (n p nl : ℕ) (ls : List ℕ) (nf : ℕ) (fs : List ℕ) (valid : Vali
         at = λ v x u y hv hx hu hy e.
             let a = digits (n * p) k k (v * p + x) (u * p + y) l (place-lt n p u y hu hy) e in
             let c = digits p v x u y hx hy (sym (a .0) ∙ a .1) in
-            rw (← c .0, ← c .1) (rw (cap-light 0 0 (omega arith)) at (reach.reached-here (hopOf n p nl ls nf fs) v x));
+            rw (← c .0, ← c .1) (rw (cap-light 0 0 (omega arith)) at (levels.reached-here (hopOf n p nl ls nf fs) v x));
       }
 
   home-step : (k : ℕ) → k < n * p → (s : Cells) → Held (n * p * (n * p)) Pair s → Step (n * p * (n * p)) Pair s (lowered (k * (n * p) + k) 0 0 s)
@@ -166,57 +174,123 @@ module _ (n p nl : ℕ) (ls : List ℕ) (nf : ℕ) (fs : List ℕ) (valid : Vali
 
   -- ## From sweep to sweep
 
-  -- no row lowers anything
-  unfoldable pub Still : (W C : List ℕ) → Type 0
-  Still W C = (v x : ℕ) → v < n → x < p → row n p nl ls nf fs v x (cells W C false) ≡ cells W C false
+  abbrev rooms-of : Stage → Cells
+  rooms-of (stage W C H b) = cells W C b
 
-  pub record Swept (W C W′ C′ : List ℕ) (r : Bool) : Type 0 where
-    pub sound : Sound n p nl ls nf fs valid W′ C′
-    pub kept : Kept (n * p * (n * p)) W C W′ C′
-    pub quiet : r ≡ false → Still W′ C′
-    pub falls : r ≡ true → size (cells W′ C′ false) < size (cells W C false)
+  abbrev Kind : Stage → Type 0
+  Kind s = Rooms n p nl ls nf fs valid (rooms-of s)
 
-  pub swept : (back : Bool) (W C W′ C′ : List ℕ) (r : Bool) → Sound n p nl ls nf fs valid W C → cells W′ C′ r ≡ sweep n p nl ls nf fs back (cells W C false) → Swept W C W′ C′ r
-  unfolding val size Still
-  swept back W C W′ C′ r sound e =
+  abbrev On : Stage → Stage → Type 0
+  On s t = Step (n * p * (n * p)) Pair (rooms-of s) (rooms-of t)
+
+  -- a row that begins with no flag, within a sweep that may have one
+  flagged : (W C W′ C′ : List ℕ) (b r : Bool) → Step (n * p * (n * p)) Pair (cells W C false) (cells W′ C′ r) → Step (n * p * (n * p)) Pair (cells W C b) (cells W′ C′ (b || r))
+  unfolding val size
+  flagged W C W′ C′ b r a =
       record {
-        sound =
-            record {
-              rooms = unflag _ _ W′ C′ r false (st .held);
-              at-home = λ k l. le-trans-v _ (valueAt W C (k * (n * p) + k)) _ (st .below (k * (n * p) + k) (home-in k l)) (sound .at-home k l);
-            };
-        kept = kept-of W C W′ C′ false r st;
-        quiet = quiet;
-        falls = λ f. go (st .falls f);
+        held = unflag _ _ W′ C′ r (b || r) (a .held);
+        same-ws = a .same-ws;
+        same-cs = a .same-cs;
+        past-ws = a .past-ws;
+        past-cs = a .past-cs;
+        below = a .below;
+        no-more = a .no-more;
+        falls = λ e. go b r e (a .falls);
       }
     where
-      st : Step (n * p * (n * p)) Pair (cells W C false) (cells W′ C′ r)
-      st = rw e (sweep-step n p nl ls nf fs valid back (cells W C false) (sound .rooms))
+      go : (b r : Bool) → (b || r) ≡ true → (r ≡ true → (false ≡ true) ⊎ (size (cells W′ C′ r) < size (cells W C false))) → (b ≡ true) ⊎ (size (cells W′ C′ (b || r)) < size (cells W C b))
+      go true r e f = inl refl
+      go false r e f = more (f e)
+        where
+          more : (false ≡ true) ⊎ (size (cells W′ C′ r) < size (cells W C false)) → (false ≡ true) ⊎ (size (cells W′ C′ r) < size (cells W C false))
+          more o = o
 
-      quiet : r ≡ false → (v x : ℕ) → v < n → x < p → row n p nl ls nf fs v x (cells W′ C′ false) ≡ cells W′ C′ false
-      quiet f v x hv hx =
-          let g = ap fell (sym e) ∙ f in
-          let b : cells W′ C′ false ≡ cells W C false = ap (λ (k : Bool). cells W′ C′ k) (sym f) ∙ e ∙ sweep-quiet n p nl ls nf fs back .still (cells W C false) g in
-          rw b (sweep-each n p nl ls nf fs valid back (cells W C false) g v x hv hx)
+  module _ (stamp since : ℕ) where
+    visited-on : (v x : ℕ) → v < n → x < p → (s : Stage) → Kind s → On s (visited n p nl ls nf fs stamp since v x s)
+    unfolding visited stamped
+    visited-on v x hv hx (stage W C H b) k = go (row n p nl ls nf fs H since v x (cells W C false)) (row-step n p nl ls nf fs valid v x hv hx H since (cells W C false) (unflag _ _ W C b false k))
+      where
+        go : (t : Cells) → Step (n * p * (n * p)) Pair (cells W C false) t → On (stage W C H b) (stamped stamp (place p v x) H b t)
+        go (cells W′ C′ r) a = flagged W C W′ C′ b r a
 
-      go : (false ≡ true) ⊎ (size (cells W′ C′ r) < size (cells W C false)) → size (cells W′ C′ false) < size (cells W C false)
-      go (inl f) = absurd (not-both (sym f))
-      go (inr f) = f
+    nodeRows-on : (v : ℕ) → v < n → (s : Stage) → Kind s → On s (nodeRows n p nl ls nf fs stamp since v s)
+    unfolding nodeRows
+    nodeRows-on v hv = loops.upto-step Kind On (λ s k. step-none _ _ (rooms-of s) k) (λ s t u a b. step-then _ _ (rooms-of s) (rooms-of t) (rooms-of u) a b) (λ s t a. a .held) _ p (λ x hx. visited-on v x hv hx)
 
-  -- the measure of the sweeps: one more than the rooms', and 0 once nothing fell
-  pub less-left : (W C W′ C′ : List ℕ) (r : Bool) → Swept W C W′ C′ r → cond r (1 + size (cells W′ C′ false)) 0 < 1 + size (cells W C false)
-  less-left W C W′ C′ true k = omega (arith, k .falls refl)
-  less-left W C W′ C′ false k = omega arith
+    sweep-on : (back : Bool) (s : Stage) → Kind s → On s (sweep n p nl ls nf fs stamp since back s)
+    unfolding sweep
+    sweep-on back =
+        loops.upto-step Kind On (λ s k. step-none _ _ (rooms-of s) k) (λ s t u a b. step-then _ _ (rooms-of s) (rooms-of t) (rooms-of u) a b) (λ s t a. a .held) _ n
+        (λ k hk. nodeRows-on (turned back n k) (turned-lt back n k hk))
+
+    pub record Swept (W C H W′ C′ H′ : List ℕ) (r : Bool) : Type 0 where
+      pub sound : Sound n p nl ls nf fs valid W′ C′
+      pub kept : Kept (n * p * (n * p)) W C W′ C′
+      pub still : since ≡ 0 → r ≡ false → Still n p nl ls nf fs valid W′ C′ H′
+      pub no-more : size (cells W′ C′ false) ≤ size (cells W C false)
+      pub falls : r ≡ true → size (cells W′ C′ false) < size (cells W C false)
+
+    pub swept : (back : Bool) (W C H W′ C′ H′ : List ℕ) (r : Bool) → Sound n p nl ls nf fs valid W C
+        → stage W′ C′ H′ r ≡ sweep n p nl ls nf fs stamp since back (stage W C H false) → Swept W C H W′ C′ H′ r
+    unfolding val size Still
+    swept back W C H W′ C′ H′ r sound e =
+        record {
+          sound =
+              record {
+                rooms = unflag _ _ W′ C′ r false (st .held);
+                at-home = λ k l. le-trans-v _ (valueAt W C (k * (n * p) + k)) _ (st .below (k * (n * p) + k) (home-in k l)) (sound .at-home k l);
+              };
+          kept = kept-of W C W′ C′ false r st;
+          still = still;
+          no-more = st .no-more;
+          falls = λ f. go (st .falls f);
+        }
+      where
+        st : Step (n * p * (n * p)) Pair (cells W C false) (cells W′ C′ r)
+        st = subst (λ (t : Stage). On (stage W C H false) t) (sym e) (sweep-on back (stage W C H false) (sound .rooms))
+
+        still : since ≡ 0 → r ≡ false → (v x : ℕ) → v < n → x < p → row n p nl ls nf fs H′ 0 v x (cells W′ C′ false) ≡ cells W′ C′ false
+        still z f v x hv hx =
+            let g = ap dropped (sym e) ∙ f in
+            let b : stage W′ C′ H′ r ≡ stage W C H false = e ∙ sweep-quiet n p nl ls nf fs stamp since back .still (stage W C H false) g in
+            let a : W′ ≡ W = cc in
+            let c : C′ ≡ C = cc in
+            let d : H′ ≡ H = cc in
+            rw (a, c, d, ← z) (sweep-each n p nl ls nf fs stamp since back W C H g v x hv hx)
+
+        go : (false ≡ true) ⊎ (size (cells W′ C′ r) < size (cells W C false)) → size (cells W′ C′ false) < size (cells W C false)
+        go (inl f) = absurd (not-both (sym f))
+        go (inr f) = f
+
+    -- what is left to do: it falls while something falls, and once more for the full sweep at the end
+    module _ (W C H W′ C′ H′ : List ℕ) (r : Bool) (k : Swept W C H W′ C′ H′ r) where
+      pub left-falls : (done : Bool) (next : ℕ) → done ≡ (not r && eqb since 0) → next ≡ cond r stamp 0
+          → cond done 0 (1 + (2 * size (cells W′ C′ false) + min next 1)) < 1 + (2 * size (cells W C false) + min since 1)
+      left-falls done next e f = go r (ℕ-discrete since 0) (k .falls) e f
+        where
+          go : (r : Bool) → Dec (since ≡ 0) → (r ≡ true → size (cells W′ C′ false) < size (cells W C false)) → done ≡ (not r && eqb since 0) → next ≡ cond r stamp 0
+              → cond done 0 (1 + (2 * size (cells W′ C′ false) + min next 1)) < 1 + (2 * size (cells W C false) + min since 1)
+          go true z l a b = rw a (omega (arith, l refl))
+          go false (yes z) l a b = rw (a, eq-eqb since 0 z) (omega arith)
+          go false (no z) l a b = rw (a, ne-eqb since 0 z) (omega (arith, k .no-more))
+
+      pub done-still : (done : Bool) → done ≡ (not r && eqb since 0) → done ≡ true → Still n p nl ls nf fs valid W′ C′ H′
+      done-still done e f =
+          let a = and-true (not r) (eqb since 0) (sym e ∙ f) in
+          k .still (eqb-true since 0 (a .1)) (go r (a .0))
+        where
+          go : (r : Bool) → not r ≡ true → r ≡ false
+          go true o = sym o
+          go false o = refl
 
   -- ## The end
 
-  pub filled : (W C W′ C′ : List ℕ) → Kept (n * p * (n * p)) W C W′ C′ → Sound n p nl ls nf fs valid W′ C′ → Still W′ C′
+  pub filled : (W C W′ C′ H : List ℕ) → Kept (n * p * (n * p)) W C W′ C′ → Sound n p nl ls nf fs valid W′ C′ → Still n p nl ls nf fs valid W′ C′ H
       → Filled (hopOf n p nl ls nf fs) n p W C W′ C′
-  unfolding Still
-  filled W C W′ C′ k s q =
+  filled W C W′ C′ H k s q =
       record {
-        exact = exact n p nl ls nf fs valid W′ C′ s q;
-        spelled = spelled n p nl ls nf fs valid W′ C′ s q;
+        exact = exact n p nl ls nf fs valid W′ C′ H s q;
+        spelled = spelled n p nl ls nf fs valid W′ C′ H s q;
         later-weights = k .past-ws;
         later-counts = k .past-cs;
         weights-length = k .same-ws;

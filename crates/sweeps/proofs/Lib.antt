@@ -1,7 +1,13 @@
 pub mod Corners
-pub mod Steps
-pub mod Quiet
+pub mod Loops
+pub mod Falls
 pub mod Reach
+pub mod Tests
+pub mod Spread
+pub mod Ways
+pub mod Detours
+pub mod Lowering
+pub mod Quiet
 pub mod Rows
 pub mod Exact
 pub mod Begin

@@ -1,88 +1,156 @@
--- Where nothing fell, every part of what was done left the rooms as they were.
--- Assumes nothing.
-use Prim.Native.Nat.{ℕ, zero, suc, _+_, _<_}
+-- Where nothing fell, every part of what was done left all as it was. Assumes nothing.
+use Prim.Native.Nat.{ℕ, zero, suc, _+_, _*_, _<_}
 use mathlib.Core.Path.{_≡_, refl, sym, ap, _∙_}
-use mathlib.Core.Bool.{Bool, true, false, cond}
+use mathlib.Core.Bool.{Bool, true, false, cond, _||_}
 use mathlib.Core.List.{List}
 use native.Mathlib.Omega.{arith}
 use native.Mathlib.Nat.{not-suc-le-zero}
 use native.Mathlib.Decide.{decLt}
+use lib.Dec.{ltb}
 use lib.ListN.{getD, set}
-use Rattle.costs.specs.Cells.{less, Cells, cells, lowered, upto}
-use Rattle.sweeps.specs.Row.{merged, row, nodeRows, turned, sweep}
-use Rattle.sweeps.proofs.Steps.{fell}
-
-pub record Quiet (f : Cells → Cells) : Type 0 where
-  pub still : (s : Cells) → fell (f s) ≡ false → f s ≡ s
+use Rattle.laws.specs.Value.{Value, heft, count}
+use Rattle.costs.specs.Loop.{upto}
+use Rattle.costs.specs.Costs.{worth, costAt}
+use Rattle.costs.specs.Cells.{less, Cells, cells, lowered}
+use Rattle.sweeps.specs.Row.{reached, merging, merged, row}
+use Rattle.sweeps.specs.Sweep.{Stage, stage, stamped, turned, visited, nodeRows, sweep}
+use Rattle.sweeps.proofs.Lowering.{fell}
 
 pub not-both : true ≡ false → ⊥
 not-both e = let z : _≡_ {A = ℕ} 0 1 = cc in omega arith
 
-pub lowered-quiet : (i w t : ℕ) → Quiet (lowered i w t)
-unfolding lowered
-lowered-quiet i w t = record { still = still }
-  where
-    still : (s : Cells) → fell (lowered i w t s) ≡ false → lowered i w t s ≡ s
-    still (cells W C b) = go (less w t (getD W i 0) (getD C i 0))
+module _ {S : Type 0} (flag : S → Bool) where
+  pub record Quiet (f : S → S) : Type 0 where
+    pub still : (s : S) → flag (f s) ≡ false → f s ≡ s
+
+  module _ (f : ℕ → S → S) (q : (k : ℕ) → Quiet (f k)) where
+    pub upto-quiet : (n : ℕ) → Quiet (upto f n)
+    unfolding upto
+    upto-quiet n = record { still = still n }
       where
-        go : (r : Bool) → fell (cond r (cells (set W i w) (set C i t) true) (cells W C b)) ≡ false → cond r (cells (set W i w) (set C i t) true) (cells W C b) ≡ cells W C b
-        go true e = absurd (not-both e)
-        go false e = refl
+        still : (n : ℕ) (s : S) → flag (upto f n s) ≡ false → upto f n s ≡ s
+        still zero s e = refl
+        still (suc n) s e = let a = q n .still (upto f n s) e in a ∙ still n s (ap flag (sym a) ∙ e)
+
+    pub upto-each : (n : ℕ) (s : S) → flag (upto f n s) ≡ false → (k : ℕ) → k < n → f k s ≡ s
+    unfolding upto
+    upto-each zero s e k l = absurd (not-suc-le-zero l)
+    upto-each (suc n) s e k l = go (decLt k n) (λ m. upto-each n s quiet k m)
+      where
+        last : f n (upto f n s) ≡ upto f n s
+        last = q n .still (upto f n s) e
+
+        quiet : flag (upto f n s) ≡ false
+        quiet = ap flag (sym last) ∙ e
+
+        go : Dec (k < n) → (k < n → f k s ≡ s) → f k s ≡ s
+        go (yes m) rec = rec m
+        go (no m) rec = let r : k ≡ n = omega arith in rw (r) (rw (upto-quiet n .still s quiet) at last)
+
+-- ## A row
+
+reached-quiet : (i : ℕ) (e : Value) → Quiet fell (reached i e)
+unfolding reached lowered
+reached-quiet i e = record { still = still }
+  where
+    still : (s : Cells) → fell (reached i e s) ≡ false → reached i e s ≡ s
+    still (cells W C b) = go (less (heft e) (count e) (getD W i 0) (getD C i 0))
+      where
+        go : (r : Bool) → fell (cond r (cells (set W i (heft e)) (set C i (count e)) true) (cells W C b)) ≡ false
+            → cond r (cells (set W i (heft e)) (set C i (count e)) true) (cells W C b) ≡ cells W C b
+        go true f = absurd (not-both f)
+        go false f = refl
 
 -- an entry that was not lowered
-pub not-lowered : (i w t : ℕ) (W C : List ℕ) → lowered i w t (cells W C false) ≡ cells W C false → less w t (getD W i 0) (getD C i 0) ≡ false
-unfolding lowered
-not-lowered i w t W C = go (less w t (getD W i 0) (getD C i 0))
+pub not-lowered : (i : ℕ) (e : Value) (W C : List ℕ) → reached i e (cells W C false) ≡ cells W C false → less (heft e) (count e) (getD W i 0) (getD C i 0) ≡ false
+unfolding reached lowered
+not-lowered i e W C = go (less (heft e) (count e) (getD W i 0) (getD C i 0))
   where
-    go : (r : Bool) → cond r (cells (set W i w) (set C i t) true) (cells W C false) ≡ cells W C false → r ≡ false
-    go true e = ap fell e
-    go false e = refl
+    go : (r : Bool) → cond r (cells (set W i (heft e)) (set C i (count e)) true) (cells W C false) ≡ cells W C false → r ≡ false
+    go true f = ap fell f
+    go false f = refl
 
-module _ (f : ℕ → Cells → Cells) (q : (k : ℕ) → Quiet (f k)) where
-  pub upto-quiet : (n : ℕ) → Quiet (upto f n)
-  unfolding upto
-  upto-quiet n = record { still = still n }
-    where
-      still : (n : ℕ) (s : Cells) → fell (upto f n s) ≡ false → upto f n s ≡ s
-      still zero s e = refl
-      still (suc n) s e = let a = q n .still (upto f n s) e in a ∙ still n s (ap fell (sym a) ∙ e)
+merging-quiet : (base : ℕ) (y : List ℕ) (q : ℕ) → Quiet fell (merging base y q)
+unfolding merging
+merging-quiet base y q = record { still = still }
+  where
+    still : (s : Cells) → fell (merging base y q s) ≡ false → merging base y q s ≡ s
+    still (cells W C b) = go (ltb (getD y q 0) (costAt W C (base + q)))
+      where
+        go : (r : Bool) → fell (cond r (reached (base + q) (worth (getD y q 0)) (cells W C b)) (cells W C b)) ≡ false
+            → cond r (reached (base + q) (worth (getD y q 0)) (cells W C b)) (cells W C b) ≡ cells W C b
+        go true f = reached-quiet (base + q) (worth (getD y q 0)) .still (cells W C b) f
+        go false f = refl
 
-  pub upto-each : (n : ℕ) (s : Cells) → fell (upto f n s) ≡ false → (k : ℕ) → k < n → f k s ≡ s
-  unfolding upto
-  upto-each zero s e k l = absurd (not-suc-le-zero l)
-  upto-each (suc n) s e k l = go (decLt k n) (λ m. upto-each n s quiet k m)
-    where
-      last : f n (upto f n s) ≡ upto f n s
-      last = q n .still (upto f n s) e
-
-      quiet : fell (upto f n s) ≡ false
-      quiet = ap fell (sym last) ∙ e
-
-      go : Dec (k < n) → (k < n → f k s ≡ s) → f k s ≡ s
-      go (yes m) rec = rec m
-      go (no m) rec = let r : k ≡ n = omega arith in rw (r) (rw (upto-quiet n .still s quiet) at last)
-
-pub merged-quiet : (base size : ℕ) (y : Cells) → Quiet (merged base size y)
+pub merged-each : (base size : ℕ) (y : List ℕ) (s : Cells) → fell (merged base size y s) ≡ false → (q : ℕ) → q < size → merging base y q s ≡ s
 unfolding merged
-merged-quiet base size (cells Yw Yc a) = upto-quiet _ (λ q. lowered-quiet (base + q) (getD Yw q 0) (getD Yc q 0)) size
+merged-each base size y s e = upto-each fell _ (merging-quiet base y) size s e
 
-pub merged-each : (base size : ℕ) (Yw Yc : List ℕ) (a : Bool) (s : Cells) → fell (merged base size (cells Yw Yc a) s) ≡ false
-    → (q : ℕ) → q < size → lowered (base + q) (getD Yw q 0) (getD Yc q 0) s ≡ s
-unfolding merged
-merged-each base size Yw Yc a s e = upto-each _ (λ q. lowered-quiet (base + q) (getD Yw q 0) (getD Yc q 0)) size s e
+-- ## A sweep
+
+abbrev pub dropped : Stage → Bool
+dropped (stage W C H b) = b
+
+or-false : (a b : Bool) → (a || b) ≡ false → (a ≡ false) × (b ≡ false)
+or-false true b e = absurd (not-both e)
+or-false false b e = (refl, e)
+
+-- the order of the nodes
+pub turned-lt : (back : Bool) (n k : ℕ) → k < n → turned back n k < n
+unfolding turned
+turned-lt false n k h = h
+turned-lt true n k h = omega arith
+
+turned-twice : (back : Bool) (n k : ℕ) → k < n → turned back n (turned back n k) ≡ k
+unfolding turned
+turned-twice false n k h = refl
+turned-twice true n k h = omega arith
 
 module _ (n p nl : ℕ) (ls : List ℕ) (nf : ℕ) (fs : List ℕ) where
-  pub row-quiet : (v x : ℕ) → Quiet (row n p nl ls nf fs v x)
-  unfolding row
-  row-quiet v x = record { still = still }
+  row-quiet : (H : List ℕ) (since v x : ℕ) → Quiet fell (row n p nl ls nf fs H since v x)
+  unfolding row merged
+  row-quiet H since v x = record { still = still }
     where
-      still : (s : Cells) → fell (row n p nl ls nf fs v x s) ≡ false → row n p nl ls nf fs v x s ≡ s
-      still (cells W C b) e = merged-quiet _ _ _ .still (cells W C b) e
+      still : (s : Cells) → fell (row n p nl ls nf fs H since v x s) ≡ false → row n p nl ls nf fs H since v x s ≡ s
+      still (cells W C b) e = upto-quiet fell _ (merging-quiet _ _) (n * p) .still (cells W C b) e
 
-  pub rows-quiet : (v : ℕ) → Quiet (nodeRows n p nl ls nf fs v)
-  unfolding nodeRows
-  rows-quiet v = upto-quiet _ (row-quiet v) p
+  module _ (stamp since : ℕ) where
+    visited-quiet : (v x : ℕ) → Quiet dropped (visited n p nl ls nf fs stamp since v x)
+    unfolding visited stamped
+    visited-quiet v x = record { still = still }
+      where
+        still : (s : Stage) → dropped (visited n p nl ls nf fs stamp since v x s) ≡ false → visited n p nl ls nf fs stamp since v x s ≡ s
+        still (stage W C H b) = go (row n p nl ls nf fs H since v x (cells W C false)) (row-quiet H since v x .still (cells W C false))
+          where
+            go : (t : Cells) → (fell t ≡ false → t ≡ cells W C false) → dropped (stamped stamp (v * p + x) H b t) ≡ false → stamped stamp (v * p + x) H b t ≡ stage W C H b
+            go (cells W′ C′ r) q e =
+                let o = or-false b r e in
+                let z = q (o .1) in
+                let a : W′ ≡ W = cc in
+                let c : C′ ≡ C = cc in
+                rw (o .0, o .1, a, c)
 
-  pub sweep-quiet : (back : Bool) → Quiet (sweep n p nl ls nf fs back)
-  unfolding sweep
-  sweep-quiet back = upto-quiet _ (λ k. rows-quiet (turned back n k)) n
+    visited-row : (v x : ℕ) (W C H : List ℕ) → visited n p nl ls nf fs stamp since v x (stage W C H false) ≡ stage W C H false
+        → row n p nl ls nf fs H since v x (cells W C false) ≡ cells W C false
+    unfolding visited stamped
+    visited-row v x W C H = go (row n p nl ls nf fs H since v x (cells W C false))
+      where
+        go : (t : Cells) → stamped stamp (v * p + x) H false t ≡ stage W C H false → t ≡ cells W C false
+        go (cells W′ C′ r) e = cc
+
+    nodeRows-quiet : (v : ℕ) → Quiet dropped (nodeRows n p nl ls nf fs stamp since v)
+    unfolding nodeRows
+    nodeRows-quiet v = upto-quiet dropped _ (visited-quiet v) p
+
+    pub sweep-quiet : (back : Bool) → Quiet dropped (sweep n p nl ls nf fs stamp since back)
+    unfolding sweep
+    sweep-quiet back = upto-quiet dropped _ (λ k. nodeRows-quiet (turned back n k)) n
+
+    -- where a sweep lowers nothing, no row does
+    pub sweep-each : (back : Bool) (W C H : List ℕ) → dropped (sweep n p nl ls nf fs stamp since back (stage W C H false)) ≡ false
+        → (v x : ℕ) → v < n → x < p → row n p nl ls nf fs H since v x (cells W C false) ≡ cells W C false
+    unfolding sweep nodeRows
+    sweep-each back W C H e v x hv hx =
+        let a = upto-each dropped _ (λ k. nodeRows-quiet (turned back n k)) n (stage W C H false) e (turned back n v) (turned-lt back n v hv) in
+        let b = rw (turned-twice back n v hv) at a in
+        visited-row v x W C H (upto-each dropped _ (visited-quiet v) p (stage W C H false) (ap dropped b) x hx)

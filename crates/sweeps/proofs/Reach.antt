@@ -18,18 +18,18 @@ cap-as w s v r e h p q = rw (← p, ← q) h
 
 module _ (hop : Key → ℕ → Option (ℕ × ℕ)) where
   -- one level after another
-  after : {v x t z u y : ℕ} → Level hop v x t z → Level hop t z u y → Level hop v x u y
+  unfoldable pub after : {v x t z u y : ℕ} → Level hop v x t z → Level hop t z u y → Level hop v x u y
   after stay e = e
   after (carry l w h d) e = carry l w h (after d e)
   after (tunnel l w m c h i k d) e = tunnel l w m c h i k (after d e)
 
-  after-weight : {v x t z u y : ℕ} (d : Level hop v x t z) (e : Level hop t z u y) → weight hop (after d e) ≡ weight hop d + weight hop e
+  pub after-weight : {v x t z u y : ℕ} (d : Level hop v x t z) (e : Level hop t z u y) → weight hop (after d e) ≡ weight hop d + weight hop e
   unfolding weight after
   after-weight stay e = omega arith
   after-weight (carry l w h d) e = omega (arith, after-weight d e)
   after-weight (tunnel l w m c h i k d) e = omega (arith, after-weight d e)
 
-  after-steps : {v x t z u y : ℕ} (d : Level hop v x t z) (e : Level hop t z u y) → length (keys hop (after d e)) ≡ length (keys hop d) + length (keys hop e)
+  pub after-steps : {v x t z u y : ℕ} (d : Level hop v x t z) (e : Level hop t z u y) → length (keys hop (after d e)) ≡ length (keys hop d) + length (keys hop e)
   unfolding keys after
   after-steps stay e = omega arith
   after-steps (carry l w h d) e = omega (arith, after-steps d e)
@@ -80,19 +80,29 @@ module _ (hop : Key → ℕ → Option (ℕ × ℕ)) where
   unfolding Opened
   opened-never v x u y = inl refl
 
-  pub opened-then : (v x l z t w u y : ℕ) (e : Value) → hop (key l wrap x z) v ≡ some (t, w) → Reached t z u y e → Opened v x u y (plus (cap w 1) e)
-  unfolding Opened Reached
-  opened-then v x l z t w u y e h (inl i) = inl (rw i (plus-never (cap w 1)))
-  opened-then v x l z t w u y e h (inr (d, i)) =
+  -- a wrap, with nothing inside yet
+  pub opened-wrap : (v x l z t w : ℕ) → hop (key l wrap x z) v ≡ some (t, w) → Opened v x t z (cap w 1)
+  unfolding Opened weight keys
+  opened-wrap v x l z t w h = inr (record { l = l; z = z; t = t; w = w; wraps = h; inner = stay; counts = cap-as w 1 _ _ _ refl (omega arith) refl })
+
+  -- on inside it
+  pub opened-then : (v x t z u y : ℕ) (c e : Value) → Opened v x t z c → Reached t z u y e → Opened v x u y (plus c e)
+  unfolding Opened Reached plus
+  opened-then v x t z u y c e (inl i) r = inl (rw i)
+  opened-then v x t z u y c e (inr o) (inl j) = inl (rw j (plus-never c))
+  opened-then v x t z u y c e (inr o) (inr (d, j)) =
       inr (
       record {
-        l = l;
-        z = z;
-        t = t;
-        w = w;
-        wraps = h;
-        inner = d;
-        counts = cap-as (w + weight hop d) (1 + length (keys hop d)) _ _ _ (rw i (cap-plus w 1 (weight hop d) (length (keys hop d)))) refl (omega arith);
+        l = o .l;
+        z = o .z;
+        t = o .t;
+        w = o .w;
+        wraps = o .wraps;
+        inner = after (o .inner) d;
+        counts =
+            cap-as (o .w + weight hop (o .inner) + weight hop d) (suc (length (keys hop (o .inner))) + length (keys hop d)) _ _ _
+            (rw (o .counts, j) (cap-plus (o .w + weight hop (o .inner)) (suc (length (keys hop (o .inner)))) (weight hop d) (length (keys hop d))))
+            (omega (arith, after-weight (o .inner) d)) (omega (arith, after-steps (o .inner) d));
       }
       )
 

@@ -1,98 +1,114 @@
--- What the code does to the rooms, as functions of them: one function here for each in the code.
--- W and C are the weight and count rooms, ls and fs the records, n the nodes and p the protocols.
--- Assumes nothing.
-use Prim.Native.Nat.{ℕ, _+_, _*_, _-_}
-use mathlib.Core.Bool.{Bool, true, false, cond, not, _&&_}
+-- One row of the tables, lowered to the ways on from its place: one function here for each in the code.
+-- W and C are the weight and count rooms. A list of costs has one for each place that a route may come to; what stands there is what it takes to get there.
+-- Assumes nothing: these are definitions.
+use Prim.Native.Nat.{ℕ, _+_, _*_}
+use mathlib.Core.Bool.{Bool, cond, not, _&&_, _||_}
 use mathlib.Core.List.{List}
-use lib.Dec.{eqb}
+use lib.Dec.{eqb, leb, ltb}
 use lib.ListN.{getD}
-use Rattle.laws.specs.Value.{Value, plus, heft, count}
-use Rattle.costs.specs.Cells.{value, Cells, cells, valueAt, stored, lowered, upto, blank}
+use Rattle.paper.specs.Net.{place}
+use Rattle.laws.specs.Value.{Value, heft, count}
 use Rattle.records.specs.Columns.{from, to, toll, node, kind, xOf, yOf, fee}
+use Rattle.scan.specs.Next.{leaves, suits}
+use Rattle.costs.specs.Loop.{upto}
+use Rattle.costs.specs.Costs.{far, worth, costAt, lowerTo, blank}
+use Rattle.costs.specs.Cells.{Cells, cells, less, lowered}
+
+-- ## On from places that are reached, by the rows of the rooms
+
+-- the entry at i is lighter than the cost k, or as light and what follows it is not new: its stamp is before `since`
+unfoldable pub idle : (W C : List ℕ) (i k stamp since : ℕ) → Bool
+idle W C i k stamp since =
+    less (getD W i 0) (getD C i 0) (heft (worth k)) (count (worth k))
+    || (ltb stamp since && not (less (heft (worth k)) (count (worth k)) (getD W i 0) (getD C i 0)))
+
+module _ (W C : List ℕ) (size : ℕ) where
+  -- at c, and then by the row that begins at `base`
+  unfoldable pub composed : (base c : ℕ) → List ℕ → List ℕ
+  composed base c = upto (λ q. lowerTo q (c + costAt W C (base + q))) size
+
+  -- on from place r, where something gets there
+  unfoldable pub onward : (a : List ℕ) (r : ℕ) → List ℕ → List ℕ
+  onward a r y = cond (leb far (getD a r 0)) y (composed (r * size) (getD a r 0) y)
+
+  unfoldable pub onwards : (a : List ℕ) → List ℕ → List ℕ
+  onwards a = upto (onward a) size
+
+  -- on from place r, unless the row that begins at `base` has nothing to gain there; H has the stamp of each row's last change
+  unfoldable pub going : (H : List ℕ) (since base : ℕ) (a : List ℕ) (r : ℕ) → List ℕ → List ℕ
+  going H since base a r y = cond (idle W C (base + r) (getD a r 0) (getD H r 0) since) y (onward a r y)
+
+  unfoldable pub goings : (H : List ℕ) (since base : ℕ) (a : List ℕ) → List ℕ → List ℕ
+  goings H since base a = upto (going H since base a) size
+
+-- ## Steps and tunnels from one place
+
+-- what function j over link i takes: one step
+abbrev pub stepCost : (ls fs : List ℕ) (j i : ℕ) → ℕ
+stepCost ls fs j i = (fee fs j + toll ls i) * 65536 + 1
+
+-- function j over link i, where that leaves v
+unfoldable pub crossing : (p : ℕ) (ls fs : List ℕ) (v j i : ℕ) → List ℕ → List ℕ
+crossing p ls fs v j i a = cond (leaves ls v i) (lowerTo (place p (to ls i) (yOf fs j)) (stepCost ls fs j i) a) a
+
+-- function j over each link of v, where it is one of v, of kind k, for x
+unfoldable pub serving : (p nl : ℕ) (ls fs : List ℕ) (v k x j : ℕ) → List ℕ → List ℕ
+serving p nl ls fs v k x j a = cond (suits fs v k x j) (upto (crossing p ls fs v j) nl a) a
+
+unfoldable pub steps : (p nl : ℕ) (ls : List ℕ) (nf : ℕ) (fs : List ℕ) (v k x : ℕ) → List ℕ → List ℕ
+steps p nl ls nf fs v k x = upto (serving p nl ls fs v k x) nf
+
+-- function j, where it unwraps what hides x, at an exit that something gets to; its link is yet to be crossed
+unfoldable pub closing : (p : ℕ) (fs : List ℕ) (x : ℕ) (exits : List ℕ) (j : ℕ) → List ℕ → List ℕ
+closing p fs x exits j e =
+    cond (eqb (kind fs j) 2 && eqb (xOf fs j) x)
+    (cond (leb far (getD exits (place p (node fs j) (yOf fs j)) 0)) e
+    (lowerTo (node fs j) (getD exits (place p (node fs j) (yOf fs j)) 0 + (fee fs j * 65536 + 1)) e)) e
+
+unfoldable pub closings : (p nf : ℕ) (fs : List ℕ) (x : ℕ) (exits : List ℕ) → List ℕ → List ℕ
+closings p nf fs x exits = upto (closing p fs x exits) nf
+
+-- link i, from a node where a tunnel has been closed, under x
+unfoldable pub landing : (p : ℕ) (ls : List ℕ) (x : ℕ) (ends : List ℕ) (i : ℕ) → List ℕ → List ℕ
+landing p ls x ends i a =
+    cond (leb far (getD ends (from ls i) 0)) a
+    (lowerTo (place p (to ls i) x) (getD ends (from ls i) 0 + (toll ls i * 65536 + 0)) a)
+
+unfoldable pub landings : (p nl : ℕ) (ls : List ℕ) (x : ℕ) (ends : List ℕ) → List ℕ → List ℕ
+landings p nl ls x ends = upto (landing p ls x ends) nl
+
+-- ## Into the rooms
 
 -- the entry at i lowered to a value
 unfoldable pub reached : ℕ → Value → Cells → Cells
 reached i e = lowered i (heft e) (count e)
 
--- the first `size` entries lowered to c and then the rooms' entries from `base` on
-unfoldable pub composed : (W C : List ℕ) (base size : ℕ) → Value → Cells → Cells
-composed W C base size c = upto (λ q. reached q (plus c (valueAt W C (base + q)))) size
+-- the entry lowered to the cost at q, where that is less
+unfoldable pub merging : (base : ℕ) (y : List ℕ) (q : ℕ) → Cells → Cells
+merging base y q (cells W C b) =
+    cond (ltb (getD y q 0) (costAt W C (base + q))) (reached (base + q) (worth (getD y q 0)) (cells W C b)) (cells W C b)
 
--- the entries from `base` on lowered to the first `size` entries of another room
-unfoldable pub merged : (base size : ℕ) → Cells → Cells → Cells
-merged base size (cells Yw Yc b) = upto (λ q. lowered (base + q) (getD Yw q 0) (getD Yc q 0)) size
+unfoldable pub merged : (base size : ℕ) (y : List ℕ) → Cells → Cells
+merged base size y = upto (merging base y) size
 
--- from each landing node on
-module _ (n p : ℕ) (W C : List ℕ) (x : ℕ) where
-  unfoldable pub onward : (Tw Tc : List ℕ) → ℕ → Cells → Cells
-  onward Tw Tc t s = cond (eqb (getD Tw t 0) 4294967295) s (composed W C ((t * p + x) * (n * p)) (n * p) (valueAt Tw Tc t) s)
-
-  unfoldable pub onwards : Cells → Cells → Cells
-  onwards (cells Tw Tc b) = upto (onward Tw Tc) n
-
--- the k-th of n nodes, from the first on or from the last
-unfoldable pub turned : Bool → ℕ → ℕ → ℕ
-turned false n k = k
-turned true n k = n - 1 - k
-
--- `act` for each function that passes the test, with each link that leaves the function's node
-module _ (ls fs : List ℕ) (act : ℕ → ℕ → Cells → Cells) where
-  unfoldable pub crossing : ℕ → ℕ → Cells → Cells
-  crossing j i s = cond (eqb (from ls i) (node fs j)) (act j i s) s
-
-  unfoldable pub serving : (ℕ → Bool) → ℕ → ℕ → Cells → Cells
-  serving test nl j s = cond (test j) (upto (crossing j) nl s) s
-
-  unfoldable pub scan : (ℕ → Bool) → (nl nf : ℕ) → Cells → Cells
-  scan test nl nf = upto (serving test nl) nf
-
--- function j is one of node v, of kind k, for the protocol x
-unfoldable pub suits : (fs : List ℕ) (v k x : ℕ) → ℕ → Bool
-suits fs v k x j = eqb (node fs j) v && (eqb (kind fs j) k && eqb (xOf fs j) x)
-
--- function j unwraps what hides x, where something gets there
-unfoldable pub exits : (fs Xw : List ℕ) (p x : ℕ) → ℕ → Bool
-exits fs Xw p x j = (eqb (kind fs j) 2 && eqb (xOf fs j) x) && not (eqb (getD Xw (node fs j * p + yOf fs j) 0) 4294967295)
+-- ## The row
 
 module _ (n p nl : ℕ) (ls : List ℕ) (nf : ℕ) (fs : List ℕ) where
-  -- the step of function j over link i, then a row of the rooms
-  unfoldable pub stepped : (W C : List ℕ) → ℕ → ℕ → Cells → Cells
-  stepped W C j i = composed W C ((to ls i * p + yOf fs j) * (n * p)) (n * p) (value (fee fs j + toll ls i) 1)
+  module _ (W C : List ℕ) where
+    -- into the tunnels that begin at v under x, and on inside them
+    unfoldable pub inside : (v x : ℕ) → List ℕ → List ℕ
+    inside v x = onwards W C (n * p) (steps p nl ls nf fs v 1 x (blank 1024))
 
-  unfoldable pub steps : (W C : List ℕ) (v k x : ℕ) → Cells → Cells
-  steps W C v k x = scan ls fs (stepped W C) (suits fs v k x) nl nf
+    -- through those tunnels
+    unfoldable pub tunnels : (v x : ℕ) → List ℕ → List ℕ
+    tunnels v x = landings p nl ls x (closings p nf fs x (inside v x (blank 1024)) (blank 256))
 
-  -- the entry of the landing node lowered to the exit's value and the step of function j over link i
-  unfoldable pub landed : (Xw Xc : List ℕ) → ℕ → ℕ → Cells → Cells
-  landed Xw Xc j i = reached (to ls i) (plus (value (fee fs j + toll ls i) 1) (valueAt Xw Xc (node fs j * p + yOf fs j)))
+    -- the places that one step or one tunnel leads to, and the ways on from there
+    unfoldable pub reach : (v x : ℕ) → List ℕ
+    reach v x = tunnels v x (steps p nl ls nf fs v 0 x (blank 1024))
 
-  unfoldable pub lands : (Xw Xc : List ℕ) (x : ℕ) → Cells → Cells
-  lands Xw Xc x = scan ls fs (landed Xw Xc) (exits fs Xw p x) nl nf
+    unfoldable pub ways : (H : List ℕ) (since v x : ℕ) → List ℕ
+    ways H since v x = goings W C (n * p) H since (place p v x * (n * p)) (reach v x) (blank 1024)
 
-  unfoldable pub passed : (W C : List ℕ) (x : ℕ) → Cells → Cells → Cells
-  passed W C x (cells Xw Xc b) s = cond b (onwards n p W C x (lands Xw Xc x (blank 256)) s) s
-
-  -- the tunnels that begin at v under x
-  unfoldable pub tunnels : (W C : List ℕ) (v x : ℕ) → Cells → Cells
-  tunnels W C v x = passed W C x (steps W C v 1 x (blank 1024))
-
-  -- all the ways on from v under x
-  unfoldable pub ways : (W C : List ℕ) (v x : ℕ) → Cells → Cells
-  ways W C v x s = tunnels W C v x (steps W C v 0 x s)
-
-  -- the row of one place, the nodeRows of one node, the whole
-  unfoldable pub row : (v x : ℕ) → Cells → Cells
-  row v x (cells W C b) = merged ((v * p + x) * (n * p)) (n * p) (ways W C v x (blank 1024)) (cells W C b)
-
-  unfoldable pub nodeRows : ℕ → Cells → Cells
-  nodeRows v = upto (row v) p
-
-  unfoldable pub sweep : Bool → Cells → Cells
-  sweep back = upto (λ k. nodeRows (turned back n k)) n
-
--- every entry `never`, then those of a place with itself 0 and 0
-unfoldable pub cleared : ℕ → Cells → Cells
-cleared m = upto (λ i. stored i 4294967295 0) m
-
-unfoldable pub diagonal : ℕ → Cells → Cells
-diagonal size = upto (λ k. lowered (k * size + k) 0 0) size
+  unfoldable pub row : (H : List ℕ) (since v x : ℕ) → Cells → Cells
+  row H since v x (cells W C b) = merged (place p v x * (n * p)) (n * p) (ways W C H since v x) (cells W C b)

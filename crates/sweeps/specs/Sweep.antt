@@ -1,0 +1,41 @@
+-- A sweep over all the rows, as a function of the rooms: one function here for each in the code.
+-- Assumes nothing: these are definitions.
+use Prim.Native.Nat.{ℕ, _+_, _*_, _-_}
+use mathlib.Core.Bool.{Bool, true, false, cond, _||_}
+use mathlib.Core.List.{List}
+use lib.ListN.{set}
+use Rattle.paper.specs.Limits.{never-mark}
+use Rattle.paper.specs.Net.{place}
+use Rattle.costs.specs.Loop.{upto}
+use Rattle.costs.specs.Cells.{Cells, cells, stored, lowered}
+use Rattle.sweeps.specs.Row.{row}
+
+-- the weights, the counts, the stamp of each row's last change, and whether an entry fell
+pub data Stage : Type 0 where
+  stage : List ℕ → List ℕ → List ℕ → Bool → Stage
+
+-- a row swept: it gets the stamp where it fell
+unfoldable pub stamped : (stamp P : ℕ) (H : List ℕ) (b : Bool) → Cells → Stage
+stamped stamp P H b (cells W C r) = stage W C (cond r (set H P stamp) H) (b || r)
+
+-- the k-th of n nodes, from the first on or from the last
+unfoldable pub turned : Bool → ℕ → ℕ → ℕ
+turned false n k = k
+turned true n k = n - 1 - k
+
+module _ (n p nl : ℕ) (ls : List ℕ) (nf : ℕ) (fs : List ℕ) (stamp since : ℕ) where
+  unfoldable pub visited : (v x : ℕ) → Stage → Stage
+  visited v x (stage W C H b) = stamped stamp (place p v x) H b (row n p nl ls nf fs H since v x (cells W C false))
+
+  unfoldable pub nodeRows : ℕ → Stage → Stage
+  nodeRows v = upto (visited v) p
+
+  unfoldable pub sweep : Bool → Stage → Stage
+  sweep back = upto (λ k. nodeRows (turned back n k)) n
+
+-- every entry `never`, then those of a place with itself 0 and 0
+unfoldable pub cleared : ℕ → Cells → Cells
+cleared m = upto (λ i. stored i never-mark 0) m
+
+unfoldable pub diagonal : ℕ → Cells → Cells
+diagonal size = upto (λ k. lowered (k * size + k) 0 0) size
