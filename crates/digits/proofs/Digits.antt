@@ -1,5 +1,6 @@
 -- A number's digits: how many there are, and which. Assumes nothing.
 use mathlib.Core.Path.{_≡_, refl, sym, ap}
+use mathlib.Core.Bool.{Bool, true, false, cond}
 use mathlib.Core.List.{List, [], _∷_, _++_}
 use Prim.Native.Nat.{ℕ, zero, suc, _+_, _-_, _/_, _%_, _^_, _≤_, _<_}
 use native.Mathlib.Nat.{div-one, div-div-eq-div-mul, pow-suc, pow-succ', le-of-suc-le-suc}
@@ -74,3 +75,18 @@ spelt (suc m) n = go (test (ltb n 10)) (spelt m (n / 10))
 pub decimal-digits : (n : ℕ) → decimal n ≡ lastDigits (length (decimal n)) n
 unfolding decimal
 decimal-digits n = spelt 20 n
+
+-- ## A number has at most 20 digits
+
+digits-most : (f n : ℕ) → length (decimalTo f n) ≤ f
+unfolding decimalTo
+digits-most zero n = omega arith
+digits-most (suc f) n = go (ltb n 10) (digits-most f (n / 10))
+  where
+    go : (b : Bool) → length (decimalTo f (n / 10)) ≤ f → length (cond b ((48 + n) ∷ []) (decimalTo f (n / 10) ++ ((48 + n % 10) ∷ []))) ≤ suc f
+    go true h = omega arith
+    go false h = omega (arith, length-append (decimalTo f (n / 10)) ((48 + n % 10) ∷ []))
+
+pub decimal-most : (n : ℕ) → length (decimal n) ≤ 20
+unfolding decimal
+decimal-most n = digits-most 20 n

@@ -1,36 +1,20 @@
 -- The size of a stack's text: how a step alters it, and its bound. Assumes nothing.
-use Prim.Native.Nat.{ℕ, zero, suc, _+_, _*_, _/_, _%_, _≤_}
+use Prim.Native.Nat.{ℕ, suc, _+_, _*_, _≤_}
 use mathlib.Core.Path.{_≡_, refl}
-use mathlib.Core.Bool.{Bool, true, false, cond}
 use mathlib.Core.List.{List, [], _∷_, _++_}
 use mathlib.Core.Option.{some, Option·none-ne-some}
 use native.Mathlib.Omega.{arith}
-use lib.Dec.{ltb}
 use lib.ListN.{length, getD, length-append}
 use Rattle.paper.specs.Net.{Kind, conv, wrap, unwrap, key}
 use Rattle.paper.specs.Route.{act}
-use Rattle.paper.specs.Text.{decimalTo, decimal}
+use Rattle.paper.specs.Text.{decimal}
 use Rattle.paper.specs.Trace.{dotted}
 use Rattle.laws.proofs.Parse.{conv-inv, wrap-inv, unwrap-inv}
 use Rattle.records.specs.Columns.{kindAt}
+use Rattle.digits.proofs.Digits.{decimal-most}
 use Rattle.stack.proofs.Cells.{kind-other}
 use Rattle.replay.specs.Keys.{keyOf}
 use Rattle.measure.specs.Sizes.{lost, gained}
-
--- ## A number has at most 20 digits
-
-digits-most : (f n : ℕ) → length (decimalTo f n) ≤ f
-unfolding decimalTo
-digits-most zero n = omega arith
-digits-most (suc f) n = go (ltb n 10) (digits-most f (n / 10))
-  where
-    go : (b : Bool) → length (decimalTo f (n / 10)) ≤ f → length (cond b ((48 + n) ∷ []) (decimalTo f (n / 10) ++ ((48 + n % 10) ∷ []))) ≤ suc f
-    go true h = omega arith
-    go false h = omega (arith, length-append (decimalTo f (n / 10)) ((48 + n % 10) ∷ []))
-
-pub decimal-most : (n : ℕ) → length (decimal n) ≤ 20
-unfolding decimal
-decimal-most n = digits-most 20 n
 
 -- ## The top of the stack is the last number of its text
 

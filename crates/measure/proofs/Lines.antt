@@ -16,7 +16,8 @@ use Rattle.stack.specs.Items.{highest}
 use Rattle.replay.specs.Packet.{Runs}
 use Rattle.replay.proofs.Routes.{runs-allowed, runs-next}
 use Rattle.measure.specs.Sizes.{lineSize, most-line}
-use Rattle.measure.proofs.Dots.{decimal-most, dots-most}
+use Rattle.digits.proofs.Digits.{decimal-most}
+use Rattle.measure.proofs.Dots.{dots-most}
 
 -- ## One line
 

@@ -2,7 +2,8 @@ use denote.Ref.{now}
 use native.Mathlib.Omega.{arith}
 use borrow.Author.Needs.{needs}
 use Rattle.digits.proofs.Writing.{then}
-use Rattle.programs.proofs.Replies.{decimal-most, reply-parts}
+use Rattle.digits.proofs.Digits.{decimal-most}
+use Rattle.programs.proofs.Replies.{reply-parts}
 use Rattle.programs.proofs.put_reply.Statement.{statement}
 use Rattle.programs.proofs.put_reply.Tie as tie
 
