@@ -1,7 +1,6 @@
 // A cursor that knows the file and its present place, and the line that it finds there. The functions over it are thin: the work is done on the slice and the number.
 ghost use mathlib.Core.Path.{_≡_};
 ghost use Rattle.cursor.specs.Line.{LineAt};
-
 use fields::find;
 
 pub struct Cursor<'a> {
