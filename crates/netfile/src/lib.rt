@@ -1,4 +1,4 @@
-// The network file, read: number and line of a refusal, or the records in normal order, four numbers a link and five a function.
+// The network file, read line by line with a cursor: number and line of a refusal, or the records in normal order, four numbers a link and five a function.
 ghost use mathlib.Core.Path.{_≡_};
 ghost use mathlib.Core.List.{[]};
 ghost use Prim.Native.Nat.{_≤_, _<_};
@@ -22,11 +22,11 @@ use records::index;
 // ---- one line
 
 // What one line comes to: its number, where the next line starts, and how many links and functions there are now.
-pub struct Turn {
-    pub number: u32,
-    pub next: usize,
-    pub links: usize,
-    pub funs: usize,
+struct Turn {
+    number: u32,
+    next: usize,
+    links: usize,
+    funs: usize,
 }
 
 // The line at byte a, on top of c links and d functions.
@@ -111,10 +111,10 @@ fn net_fits(n: u32, p: u32) -> bool
 }
 
 // What the first line comes to: its number, and n and p.
-pub struct Header {
-    pub number: u32,
-    pub n: u32,
-    pub p: u32,
+struct Header {
+    number: u32,
+    n: u32,
+    p: u32,
 }
 
 // The first line, whose LF is at byte e.

@@ -1,3 +1,4 @@
+-- The size, the first line, then the lines below it; an accepted file leaves valid records. Assumes nothing.
 use native.Mathlib.Omega.{arith}
 use Rattle.netfile.proofs.Lines.{line-within}
 use Rattle.netfile.proofs.Turns.{plain-refused, not-accepted}

@@ -1,3 +1,4 @@
+-- The line that the cursor finds is put on top of what is kept, as its kind of line is. Assumes nothing.
 use mathlib.Core.Path.{sym, _∙_}
 use native.Mathlib.Omega.{arith}
 use Rattle.records.specs.Columns.{netOf}
