@@ -1,4 +1,4 @@
--- Parts of a file: a part split in two, and a part that holds none of a byte. Assumes nothing.
+-- Parts of a file: a part split in two, a part that holds none of a byte, and that a search has one answer. Assumes nothing.
 use mathlib.Core.Path.{_≡_, ap}
 use mathlib.Core.Bool.{true}
 use mathlib.Core.List.{List, _∷_, _++_}
@@ -9,6 +9,7 @@ use lib.ListN.{length, getD}
 use borrow.Author.Tests.{ne-eqb}
 use Rattle.digits.specs.Read.{part}
 use Rattle.digits.proofs.Parts.{part-cons, part-empty}
+use Rattle.laws.proofs.Before.{Three, less, equal, more, three}
 use Rattle.laws.proofs.Spelling.{free}
 use Rattle.fields.specs.Fields.{Find}
 
@@ -27,3 +28,12 @@ free-part (suc d) l c s t e g h =
 -- the bytes passed in a search hold none of what was searched for
 pub find-free : (l : List ℕ) (a e c r : ℕ) → e ≤ length l → Find l a e c r → free c (part l a r) ≡ true
 find-free l a e c r g f = free-part (r - a) l c a r (omega (arith, f .low)) (le-trans (f .high) g) (f .before)
+
+-- a search has one answer
+pub find-once : (l : List ℕ) (a e c r s : ℕ) → Find l a e c r → Find l a e c s → r ≡ s
+find-once l a e c r s f g = go (three r s)
+  where
+    go : Three r s → r ≡ s
+    go (less h) = absurd (g .before r h (f .low) (f .there (omega (arith, g .high))))
+    go (equal h) = h
+    go (more h) = absurd (f .before s h (g .low) (g .there (omega (arith, f .high))))

@@ -1,7 +1,7 @@
 -- The whole file: its size, its first line, the lines below it, and that no second answer fits. Assumes nothing.
 use mathlib.Core.Path.{_≡_, refl, sym, ap, _∙_}
 use mathlib.Core.List.{List, [], _∷_}
-use Prim.Native.Nat.{ℕ, _+_, _*_, _≤_, _<_}
+use Prim.Native.Nat.{ℕ, _*_, _≤_, _<_}
 use native.Mathlib.Omega.{arith}
 use native.Mathlib.Nat.{mul-le-mul-right, le-trans}
 use native.Mathlib.Decide.{decLt}
@@ -18,12 +18,12 @@ use Rattle.records.specs.Valid.{Valid}
 use Rattle.records.proofs.Rows.{length-rows, rows-mem}
 use Rattle.records.proofs.Accepted.{valid}
 use Rattle.digits.specs.Read.{part}
-use Rattle.fields.specs.Fields.{Find}
+use Rattle.cursor.specs.Line.{LineAt}
 use Rattle.rows.specs.Rows.{entries, rowAt, rowsOf}
 use Rattle.rows.proofs.Entries.{getD-entries}
 use Rattle.keep.specs.Keep.{after}
 use Rattle.netfile.specs.Judge.{linesAt, judgedOf, Plain, Refusal, Held}
-use Rattle.netfile.proofs.Lines.{line-ended, line-cut}
+use Rattle.netfile.proofs.Lines.{next-line, line-ended, line-cut}
 use Rattle.netfile.proofs.Turns.{after-zero, after-bad, judged-refused}
 
 -- ## The first line
@@ -53,25 +53,30 @@ pub file-large : (l : List ℕ) (u v n p c d : ℕ) (w : Net) → 65536 < length
 unfolding judge
 file-large l u v n p c d w h r = judged-refused 1 0 u v n p c d r (λ z. absurd (omega arith)) w ∙ sym (rw (lt-ltb 65536 (length l) h))
 
-pub file-cut : (l : List ℕ) (e u v n p c d : ℕ) (w : Net) → length l ≤ 65536 → Find l 0 (length l) 10 e → e ≡ length l → Refusal 2 1 u v n p c d → judgedOf u v w ≡ judge l
-file-cut l e u v n p c d w s f q r = judged-refused 2 1 u v n p c d r (λ z. absurd (omega arith)) w ∙ sym (small l s ∙ go (decLt 0 e))
-  where
-    go : Dec (0 < e) → fromTop (linesAt l 0) ≡ refused 2 1
-    go (yes h) = top-cons l (cut (part l 0 e)) [] (bad 2) (line-cut l 0 e f h q) (header-cut (part l 0 e)) ∙ onward-bad 1 2 []
-    go (no h) = top-none l (no-lines l (omega arith))
+-- the first line ends at e, and the next starts at b
+module _ (l : List ℕ) (e b : ℕ) (s : length l ≤ 65536) (o : LineAt l 0 e b) where
+  pub file-cut : (u v n p c d : ℕ) (w : Net) → e ≡ length l → Refusal 2 1 u v n p c d → judgedOf u v w ≡ judge l
+  file-cut u v n p c d w q r = judged-refused 2 1 u v n p c d r (λ z. absurd (omega arith)) w ∙ sym (small l s ∙ go (decLt 0 e))
+    where
+      go : Dec (0 < e) → fromTop (linesAt l 0) ≡ refused 2 1
+      go (yes h) = top-cons l (cut (part l 0 e)) [] (bad 2) (line-cut l 0 e b (omega arith) o h q) (header-cut (part l 0 e)) ∙ onward-bad 1 2 []
+      go (no h) = top-none l (no-lines l (omega arith))
 
--- the file goes on below its first line, where that gave k
-module _ (l : List ℕ) (e : ℕ) (s : length l ≤ 65536) (f : Find l 0 (length l) 10 e) (q : e ≡ length l → ⊥) where
-  below : (k : Kept) → header (shaped (fields (part l 0 e))) ≡ k → judge l ≡ onward 1 (linesAt l (e + 1)) k
-  unfolding shape
-  below k h = small l s ∙ top-cons l (ended (part l 0 e)) (linesAt l (e + 1)) k (line-ended l 0 e f (omega (arith, q, f .high))) h
+  module _ (q : e ≡ length l → ⊥) where
+    -- the file goes on below its first line, where that gave k
+    below : (k : Kept) → header (shaped (fields (part l 0 e))) ≡ k → judge l ≡ onward 1 (linesAt l b) k
+    unfolding shape
+    below k h = small l s ∙ top-cons l (ended (part l 0 e)) (linesAt l b) k (line-ended l 0 e b (omega arith) o q) h
 
-  pub file-header : (u v n p c d r m k : ℕ) (w : Net) → header (shaped (fields (part l 0 e))) ≡ after r (net m k [] []) → (r ≡ 0 → ⊥) → Refusal r 1 u v n p c d → judgedOf u v w ≡ judge l
-  file-header u v n p c d r m k w h z t =
-      judged-refused r 1 u v n p c d t z w ∙ sym (below (bad r) (h ∙ after-bad r (net m k [] []) z) ∙ onward-bad 1 r (linesAt l (e + 1)))
+    pub file-header : (u v n p c d r m k : ℕ) (w : Net) → header (shaped (fields (part l 0 e))) ≡ after r (net m k [] []) → (r ≡ 0 → ⊥) → Refusal r 1 u v n p c d → judgedOf u v w ≡ judge l
+    file-header u v n p c d r m k w h z t = judged-refused r 1 u v n p c d t z w ∙ sym (below (bad r) (h ∙ after-bad r (net m k [] []) z) ∙ onward-bad 1 r (linesAt l b))
 
-  pub file-body : (r n p : ℕ) (j : Judged) → header (shaped (fields (part l 0 e))) ≡ after r (net n p [] []) → r ≡ 0 → j ≡ onward 1 (linesAt l (e + 1)) (good (net n p [] [])) → j ≡ judge l
-  file-body r n p j h g b = b ∙ sym (below (good (net n p [] [])) (h ∙ after-zero r (net n p [] []) g))
+    pub file-body : (r n p : ℕ) (j : Judged) → header (shaped (fields (part l 0 e))) ≡ after r (net n p [] []) → r ≡ 0 → j ≡ onward 1 (linesAt l b) (good (net n p [] [])) → j ≡ judge l
+    file-body r n p j h g i = i ∙ sym (below (good (net n p [] [])) (h ∙ after-zero r (net n p [] []) g))
+
+    -- the body starts in the file, past its first byte
+    pub body-starts : (1 ≤ b) × (b ≤ length l)
+    body-starts = (omega (arith, next-line l 0 e b (omega arith) o q), omega (arith, o .next))
 
 -- ## The records are valid
 

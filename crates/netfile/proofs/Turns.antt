@@ -15,11 +15,11 @@ use Rattle.laws.proofs.Fold.{onward-bad}
 use Rattle.records.specs.Columns.{linkAt, funAt, linkRows, funRows, netOf}
 use Rattle.records.proofs.Rows.{rows-none}
 use Rattle.digits.specs.Read.{part}
-use Rattle.fields.specs.Fields.{Find}
+use Rattle.cursor.specs.Line.{LineAt}
 use Rattle.keep.specs.Keep.{after, InOrder, Coded, Past}
 use Rattle.keep.proofs.Records.{past-none, coded-none, in-order-none}
 use Rattle.netfile.specs.Judge.{linesAt, judgedOf, Plain, Refusal, Turned, Held, Untouched, Taken}
-use Rattle.netfile.proofs.Lines.{line-ended, line-cut}
+use Rattle.netfile.proofs.Lines.{next-line, line-ended, line-cut}
 
 -- ## A turn
 
@@ -39,25 +39,25 @@ put-cut : (k : Net) (w : List ℕ) → put k (shape (cut w)) ≡ bad 2
 unfolding put shape
 put-cut k w = refl
 
-pub turned-cut : (l : List ℕ) (a e : ℕ) (k m : Net) → a < length l → Find l a (length l) 10 e → e ≡ length l → Turned l a k 2 e m
-turned-cut l a e k m h f q =
-    let s = line-cut l a e f (omega arith) q in
+pub turned-cut : (l : List ℕ) (a e b : ℕ) (k m : Net) → a < length l → LineAt l a e b → e ≡ length l → Turned l a k 2 e m
+turned-cut l a e b k m h o q =
+    let s = line-cut l a e b (omega arith) o (omega arith) q in
     record {
       on = λ z i. absurd (omega arith);
       off = λ z i. ap (λ (ls : List Line). onward i ls (good k)) s ∙ one-on i (cut (part l a e)) [] k (bad 2) (put-cut k (part l a e)) ∙ onward-bad (i + 1) 2 [];
     }
 
-pub turned-line : (l : List ℕ) (a e : ℕ) (k : Net) (r : ℕ) (m : Net) → Find l a (length l) 10 e → (e ≡ length l → ⊥) → put k (shaped (fields (part l a e))) ≡ after r m
-    → Turned l a k r (e + 1) m
+pub turned-line : (l : List ℕ) (a e b : ℕ) (k : Net) (r : ℕ) (m : Net) → a < length l → LineAt l a e b → (e ≡ length l → ⊥) → put k (shaped (fields (part l a e))) ≡ after r m
+    → Turned l a k r b m
 unfolding shape
-turned-line l a e k r m f q p =
-    let s = line-ended l a e f (omega (arith, q, f .high)) in
+turned-line l a e b k r m h o q p =
+    let s = line-ended l a e b (omega arith) o q in
     record {
-      on = λ z i. ap (λ (ls : List Line). onward i ls (good k)) s ∙ one-on i (ended (part l a e)) (linesAt l (e + 1)) k (good m) (p ∙ after-zero r m z);
+      on = λ z i. ap (λ (ls : List Line). onward i ls (good k)) s ∙ one-on i (ended (part l a e)) (linesAt l b) k (good m) (p ∙ after-zero r m z);
       off =
           λ z i. ap (λ (ls : List Line). onward i ls (good k)) s
-          ∙ one-on i (ended (part l a e)) (linesAt l (e + 1)) k (bad r) (p ∙ after-bad r m z)
-          ∙ onward-bad (i + 1) r (linesAt l (e + 1));
+          ∙ one-on i (ended (part l a e)) (linesAt l b) k (bad r) (p ∙ after-bad r m z)
+          ∙ onward-bad (i + 1) r (linesAt l b);
     }
 
 -- ## The rooms
@@ -79,23 +79,29 @@ untouched-then c c′ d d′ ls ms ns fs gs hs h g p q =
       past-funs = past-then 5 d d′ fs gs hs g (p .past-funs) (q .past-funs);
     }
 
-module _ (l : List ℕ) (a e : ℕ) (f : Find l a (length l) 10 e) (q : e ≡ length l → ⊥) (c : ℕ) (ls : List ℕ) (d : ℕ) (fs : List ℕ) (o : Held c ls d fs) where
-  pub taken-link : (ms : List ℕ) → InOrder 4 1 (c + 1) ms → Past 4 (c + 1) ls ms → Taken l a (e + 1) c ls d fs (c + 1) ms d fs
+module _ (l : List ℕ) (a e b : ℕ) (i : a < length l) (f : LineAt l a e b) (q : e ≡ length l → ⊥) (c : ℕ) (ls : List ℕ) (d : ℕ) (fs : List ℕ) (o : Held c ls d fs) where
+  onto : a < b
+  onto = let g = f .found (omega arith) in omega (arith, g .low, next-line l a e b (omega arith) f q)
+
+  not-past : b ≤ length l
+  not-past = omega (arith, f .next)
+
+  pub taken-link : (ms : List ℕ) → InOrder 4 1 (c + 1) ms → Past 4 (c + 1) ls ms → Taken l a b c ls d fs (c + 1) ms d fs
   taken-link ms h g =
       record {
-        further = omega (arith, f .low);
-        within = omega (arith, f .high, q);
+        further = onto;
+        within = not-past;
         more-links = omega arith;
         more-funs = omega arith;
         held = record { links = h; funs = o .funs; codes = o .codes };
         past = record { past-links = g; past-funs = past-none 5 d fs };
       }
 
-  pub taken-fun : (gs : List ℕ) → InOrder 5 4 (d + 1) gs → Coded (d + 1) gs → Past 5 (d + 1) fs gs → Taken l a (e + 1) c ls d fs c ls (d + 1) gs
+  pub taken-fun : (gs : List ℕ) → InOrder 5 4 (d + 1) gs → Coded (d + 1) gs → Past 5 (d + 1) fs gs → Taken l a b c ls d fs c ls (d + 1) gs
   taken-fun gs h k g =
       record {
-        further = omega (arith, f .low);
-        within = omega (arith, f .high, q);
+        further = onto;
+        within = not-past;
         more-links = omega arith;
         more-funs = omega arith;
         held = record { links = o .links; funs = h; codes = k };

@@ -1,4 +1,4 @@
-// The network file, read: number and line of a refusal, or the records in normal order, four numbers a link and five a function.
+// The network file, read line by line with a cursor: number and line of a refusal, or the records in normal order, four numbers a link and five a function.
 ghost use mathlib.Core.Path.{_≡_};
 ghost use mathlib.Core.List.{[]};
 ghost use Prim.Native.Nat.{_≤_, _<_};
@@ -11,7 +11,7 @@ ghost use Rattle.records.specs.Columns.{netOf};
 ghost use Rattle.records.specs.Valid.{Valid};
 ghost use Rattle.keep.specs.Keep.{after};
 ghost use Rattle.netfile.specs.Judge.{linesAt, judgedOf, Plain, Refusal, Turned, Held, Untouched, Taken};
-use fields::find;
+use cursor::line_from;
 use keep::put_fun;
 use keep::put_link;
 use lines::Said;
@@ -22,11 +22,11 @@ use records::index;
 // ---- one line
 
 // What one line comes to: its number, where the next line starts, and how many links and functions there are now.
-pub struct Turn {
-    pub number: u32,
-    pub next: usize,
-    pub links: usize,
-    pub funs: usize,
+struct Turn {
+    number: u32,
+    next: usize,
+    links: usize,
+    funs: usize,
 }
 
 // The line at byte a, on top of c links and d functions.
@@ -45,7 +45,8 @@ fn take_line(
     ensures { λ r. ⌜ Turned (now (file .entry)) a (netOf n p c (now (links .entry)) d (now (funs .entry))) (r .number) (r .next) (netOf n p (r .links) (now (links .exit)) (r .funs) (now (funs .exit))) ⌝ }
     ensures { λ r. ⌜ (r .number ≡ 0 → Taken (now (file .entry)) a (r .next) c (now (links .entry)) d (now (funs .entry)) (r .links) (now (links .exit)) (r .funs) (now (funs .exit))) ⌝ }
 {
-    let e = find(file, a, file.len(), b'\n');
+    let here = line_from(file, a);
+    let e = here.end;
     if e == file.len() {
         return Turn {
             number: 2,
@@ -60,7 +61,7 @@ fn take_line(
             let r = put_link(links, c, n, l, u, v, w);
             Turn {
                 number: r,
-                next: e + 1,
+                next: here.next,
                 links: c + 1,
                 funs: d,
             }
@@ -69,20 +70,20 @@ fn take_line(
             let r = put_fun(funs, d, n, p, v, k, x, y, w);
             Turn {
                 number: r,
-                next: e + 1,
+                next: here.next,
                 links: c,
                 funs: d + 1,
             }
         }
         Said::Net(_, _) => Turn {
             number: 2,
-            next: e + 1,
+            next: here.next,
             links: c,
             funs: d,
         },
         Said::Misshapen => Turn {
             number: 2,
-            next: e + 1,
+            next: here.next,
             links: c,
             funs: d,
         },
@@ -110,10 +111,10 @@ fn net_fits(n: u32, p: u32) -> bool
 }
 
 // What the first line comes to: its number, and n and p.
-pub struct Header {
-    pub number: u32,
-    pub n: u32,
-    pub p: u32,
+struct Header {
+    number: u32,
+    n: u32,
+    p: u32,
 }
 
 // The first line, whose LF is at byte e.
@@ -227,7 +228,8 @@ pub fn read(file: &[u8], links: &mut [u32], funs: &mut [u32]) -> Judgement
     if MOST_BYTES < file.len() {
         return refused(1, 0);
     }
-    let e = find(file, 0, file.len(), b'\n');
+    let first = line_from(file, 0);
+    let e = first.end;
     if e == file.len() {
         return refused(2, 1);
     }
@@ -235,5 +237,5 @@ pub fn read(file: &[u8], links: &mut [u32], funs: &mut [u32]) -> Judgement
     if h.number != 0 {
         return refused(h.number, 1);
     }
-    read_body(file, e + 1, h.n, h.p, links, funs)
+    read_body(file, first.next, h.n, h.p, links, funs)
 }

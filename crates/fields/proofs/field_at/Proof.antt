@@ -1,3 +1,4 @@
+-- The loop keeps: the fields from s on are those from field i on. Assumes nothing.
 use mathlib.Core.Path.{_≡_}
 use Prim.Native.Nat.{_≤_, _+_, _-_}
 use native.Mathlib.Omega.{arith}

@@ -1,3 +1,4 @@
+-- The field is found by the walk; a missing one is no word. Assumes nothing.
 use denote.Ref.{now}
 use mathlib.Core.Path.{ap, _∙_}
 use Prim.Native.Nat.{ℕ}

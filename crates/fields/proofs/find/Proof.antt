@@ -1,3 +1,4 @@
+-- The loop keeps: the byte stands nowhere from a up to i. Assumes nothing.
 use mathlib.Core.Path.{_≡_}
 use Prim.Native.Nat.{ℕ, _≤_, _<_, _-_}
 use lib.ListN.{getD}

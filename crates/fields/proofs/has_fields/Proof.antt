@@ -1,3 +1,4 @@
+-- The walk stands at the last of k fields, and there is no field behind it. Assumes nothing.
 use Rattle.fields.proofs.Walk.{too-few, just-enough}
 use borrow.Author.Needs.{needs}
 use Rattle.fields.proofs.has_fields.Statement.{statement}

@@ -1,3 +1,4 @@
+-- The loop keeps: the part is the word if what is left of both from byte i on is the same. Assumes nothing.
 use mathlib.Core.Path.{_≡_, sym, _∙_}
 use Prim.Native.Nat.{_≤_, _+_, _-_}
 use native.Mathlib.Omega.{arith}

@@ -1,3 +1,4 @@
+-- Past the end there is no field more; before it the next field starts behind the tab that was found. Assumes nothing.
 use Rattle.fields.proofs.Walk.{next-in, next-out}
 use borrow.Author.Needs.{needs}
 use Rattle.fields.proofs.next_field.Statement.{statement}

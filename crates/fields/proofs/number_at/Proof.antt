@@ -1,3 +1,4 @@
+-- The field is found by the walk; a missing one spells no number. Assumes nothing.
 use mathlib.Core.Path.{ap, _∙_}
 use Prim.Native.Nat.{ℕ}
 use mathlib.Core.List.{List}

@@ -1,3 +1,4 @@
+-- One test after another, as the definition has them. Assumes nothing.
 use Rattle.paper.specs.File.{funFits}
 use borrow.Author.Tests.{lt-ltb, le-ltb}
 use Rattle.keep.proofs.fun_fits.Statement.{statement}

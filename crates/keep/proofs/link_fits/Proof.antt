@@ -1,3 +1,4 @@
+-- One test after another, as the definition has them. Assumes nothing.
 use Rattle.paper.specs.File.{linkFits}
 use borrow.Author.Tests.{le-leb, lt-leb, lt-ltb, le-ltb}
 use Rattle.keep.proofs.link_fits.Statement.{statement}

@@ -1,3 +1,4 @@
+-- A function added as a row of five is the function inserted; its kind is kept as a code. Assumes nothing.
 use mathlib.Core.Path.{sym, _∙_}
 use native.Mathlib.Omega.{arith}
 use borrow.Author.Tests.{not-true, not-false}

@@ -1,3 +1,4 @@
+-- A link added as a row of four is the link inserted. Assumes nothing.
 use mathlib.Core.Path.{sym, _∙_}
 use native.Mathlib.Omega.{arith}
 use borrow.Author.Tests.{not-true, not-false}

@@ -1,3 +1,4 @@
+-- One word after another is compared; the first that fits gives its code. Assumes nothing.
 use Rattle.paper.specs.Text.{conv-word, wrap-word, unwrap-word}
 use Rattle.lines.proofs.Told.{kind-conv, kind-wrap, kind-unwrap, kind-none}
 use borrow.Author.Needs.{needs}

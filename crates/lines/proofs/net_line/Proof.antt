@@ -1,3 +1,4 @@
+-- The larger of two numbers that are told is the mark where one of them is. Assumes nothing.
 use native.Mathlib.Omega.{arith}
 use Rattle.lines.proofs.Told.{net-bad, net-good, max-below}
 use borrow.Author.Needs.{needs}

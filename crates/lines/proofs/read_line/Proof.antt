@@ -1,3 +1,4 @@
+-- The first word that fits decides; then the number of fields does. Assumes nothing.
 use mathlib.Core.Path.{sym, _∙_}
 use Rattle.paper.specs.Text.{net-word, link-word, fun-word}
 use Rattle.lines.proofs.Told.{net-shape, link-shape, fun-shape, no-shape, none-said}

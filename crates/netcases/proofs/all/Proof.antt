@@ -1,3 +1,4 @@
+-- The loop keeps: a is within the cases. Assumes nothing.
 use borrow.Author.Needs.{needs}
 use Prim.Native.Nat.{_≤_, _-_}
 use lib.ListN.{length}

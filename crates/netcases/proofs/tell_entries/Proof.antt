@@ -1,3 +1,4 @@
+-- The loop counts up to k. Assumes nothing.
 use borrow.Author.Needs.{needs}
 use Prim.Native.Nat.{_≤_, _-_}
 use Rattle.netcases.proofs.tell_entries.Statement.{statement}

@@ -1,3 +1,4 @@
+-- One test after another, as the definition has them; the product is formed of small numbers only. Assumes nothing.
 use native.Mathlib.Omega.{arith}
 use native.Mathlib.Nat.{mul-le-mul}
 use Rattle.paper.specs.File.{netFits}

@@ -1,3 +1,4 @@
+-- The loop keeps `Reading`: the file comes to what its lines from here on come to, on top of what the rooms hold. Assumes nothing.
 use Rattle.netfile.proofs.Turns.{not-accepted, Reading, reading-starts, reading-goes-on, reading-ends, reading-refuses, plain-refused, plain-accepted}
 use borrow.Author.Needs.{needs}
 use mathlib.Core.Path.{_∙_}

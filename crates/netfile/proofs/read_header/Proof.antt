@@ -1,3 +1,4 @@
+-- What is said of the first line decides as the line does. Assumes nothing.
 use mathlib.Core.Path.{sym, _∙_}
 use native.Mathlib.Omega.{arith}
 use Rattle.netfile.proofs.Told.{header-net, header-wide, header-link, header-fun, header-none, net-limits}

@@ -1,3 +1,4 @@
+-- The loop keeps: the room is as long as it was. Assumes nothing.
 use borrow.Author.Needs.{needs}
 use mathlib.Core.Path.{_≡_}
 use Prim.Native.Nat.{_-_}

@@ -1,3 +1,4 @@
+-- The loop keeps: e is within the room, which is as long as it was. Assumes nothing.
 use borrow.Author.Needs.{needs}
 use mathlib.Core.Path.{_≡_}
 use Prim.Native.Nat.{_≤_}
