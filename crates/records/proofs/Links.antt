@@ -1,0 +1,147 @@
+-- Steps and the records behind them: a function and a link that leave one node are a step, and every step is of this kind.
+-- Assumes nothing.
+use Prim.Native.Nat.{ℕ, zero, suc, _+_, _<_, _≤_}
+use mathlib.Core.Path.{_≡_, refl, sym, ap, _∙_}
+use mathlib.Core.List.{List}
+use mathlib.Core.Option.{Option, some}
+use mathlib.Core.Logic.{_⊎_, inl, inr}
+use native.Mathlib.Omega.{arith}
+use native.Mathlib.Decide.{ℕ-discrete}
+use Rattle.paper.specs.Net.{Kind, code, link, fun, Key, key}
+use Rattle.laws.proofs.Check.{Mem, Behind, behind}
+use Rattle.laws.proofs.Lookup.{OnceL, OnceF, hop-once}
+use Rattle.laws.proofs.Fixpoint as fixpoint
+use Rattle.records.specs.Columns.{number, from, to, toll, node, kind, xOf, yOf, fee, rows, kindAt, linkAt, funAt, linkRows, funRows, netOf, hopOf}
+use Rattle.records.specs.Valid.{Valid}
+
+-- ## Listings
+
+pub listed : {A : Type 0} (f : ℕ → A) (i k j : ℕ) → i ≤ j → j < i + k → Mem (f j) (rows f i k)
+unfolding rows
+listed f i zero j h l = absurd (omega arith)
+listed f i (suc k) j h l = go (ℕ-discrete j i) (λ m. listed f (suc i) k j m (omega arith))
+  where
+    go : Dec (j ≡ i) → (suc i ≤ j → Mem (f j) (rows f (suc i) k)) → (f j ≡ f i) ⊎ Mem (f j) (rows f (suc i) k)
+    go (yes e) rec = inl (ap f e)
+    go (no e) rec = inr (rec (omega arith))
+
+pub record Listed {A : Type 0} (f : ℕ → A) (i k : ℕ) (a : A) : Type 0 where
+  pub at : ℕ
+  pub least : i ≤ at
+  pub most : at < i + k
+  pub is : a ≡ f at
+
+pub unlisted : {A : Type 0} (f : ℕ → A) (i k : ℕ) (a : A) → Mem a (rows f i k) → Listed f i k a
+unfolding rows
+unlisted f i zero a m = absurd m
+unlisted f i (suc k) a (inl e) = record { at = i; least = omega arith; most = omega arith; is = e }
+unlisted f i (suc k) a (inr m) = let r = unlisted f (suc i) k a m in record { at = r .at; least = omega (arith, r .least); most = omega (arith, r .most); is = r .is }
+
+-- ## Kinds and their codes
+
+kind-code : (k : ℕ) → k < 3 → code (kindAt k) ≡ k
+unfolding kindAt
+kind-code zero h = refl
+kind-code (suc zero) h = refl
+kind-code (suc (suc zero)) h = refl
+kind-code (suc (suc (suc k))) h = absurd (omega arith)
+
+kind-inj : (k l : ℕ) → k < 3 → l < 3 → kindAt k ≡ kindAt l → k ≡ l
+kind-inj k l hk hl e = sym (kind-code k hk) ∙ ap code e ∙ kind-code l hl
+
+module _ (n p nl : ℕ) (ls : List ℕ) (nf : ℕ) (fs : List ℕ) (valid : Valid n p nl ls nf fs) where
+  abbrev h : Key → ℕ → Option (ℕ × ℕ)
+  h = hopOf n p nl ls nf fs
+
+  once-links : (i k : ℕ) → i + k ≤ nl → OnceL (rows (linkAt ls) i k)
+  unfolding rows linkAt
+  once-links i zero l = tt
+  once-links i (suc k) l = (
+    λ u t w m.
+        let r = unlisted (linkAt ls) (suc i) k (link (number ls i) u t w) m in
+        let e : number ls i ≡ number ls (r .at) = cc (r .is) in
+        let f = valid .link-once i (r .at) (omega arith) (omega (arith, r .most)) e in
+        omega (arith, r .least),
+    once-links (suc i) k (omega arith),
+  )
+
+  once-funs : (i k : ℕ) → i + k ≤ nf → OnceF (rows (funAt fs) i k)
+  unfolding rows funAt
+  once-funs i zero l = tt
+  once-funs i (suc k) l = (
+    λ w m.
+        let r = unlisted (funAt fs) (suc i) k (fun (node fs i) (kindAt (kind fs i)) (xOf fs i) (yOf fs i) w) m in
+        let a : node fs i ≡ node fs (r .at) = cc (r .is) in
+        let b : kindAt (kind fs i) ≡ kindAt (kind fs (r .at)) = cc (r .is) in
+        let c : xOf fs i ≡ xOf fs (r .at) = cc (r .is) in
+        let d : yOf fs i ≡ yOf fs (r .at) = cc (r .is) in
+        let hi : i < nf = omega arith in
+        let hr : r .at < nf = omega (arith, r .most) in
+        let f = valid .fun-once i (r .at) hi hr a (kind-inj (kind fs i) (kind fs (r .at)) (valid .fun-kind i hi) (valid .fun-kind (r .at) hr) b) c d in
+        omega (arith, r .least),
+    once-funs (suc i) k (omega arith),
+  )
+
+  -- function j over link i, where both leave v
+  pub step-at : (j i v k x : ℕ) → j < nf → i < nl → from ls i ≡ node fs j → node fs j ≡ v → kind fs j ≡ k → xOf fs j ≡ x
+      → h (key (number ls i) (kindAt k) x (yOf fs j)) v ≡ some (to ls i, fee fs j + toll ls i)
+  unfolding hopOf netOf linkRows funRows funAt linkAt
+  step-at j i v k x hj hi e a b c =
+      let f : from ls i ≡ v = e ∙ a in
+      hop-once n p (rows (linkAt ls) 0 nl) (rows (funAt fs) 0 nf) (once-links 0 nl (omega arith)) (once-funs 0 nf (omega arith)) v (kindAt k) x (yOf fs j) (fee fs j) (number ls i) (to ls i) (toll ls i)
+      (is-fun (listed (funAt fs) 0 nf j (omega arith) (omega arith))) (is-link f (listed (linkAt ls) 0 nl i (omega arith) (omega arith)))
+    where
+      is-fun : Mem (funAt fs j) (rows (funAt fs) 0 nf) → Mem (fun v (kindAt k) x (yOf fs j) (fee fs j)) (rows (funAt fs) 0 nf)
+      is-fun m = rw (← a, ← b, ← c) m
+
+      is-link : from ls i ≡ v → Mem (linkAt ls i) (rows (linkAt ls) 0 nl) → Mem (link (number ls i) v (to ls i) (toll ls i)) (rows (linkAt ls) 0 nl)
+      is-link f m = rw (← f) m
+
+  -- the function and the link of a step
+  pub record Found (l : ℕ) (c : Kind) (x y v u w : ℕ) : Type 0 where
+    pub j : ℕ
+    pub i : ℕ
+    pub of-fun : j < nf
+    pub of-link : i < nl
+    pub at-node : node fs j ≡ v
+    pub at-from : from ls i ≡ v
+    pub has-kind : kindAt (kind fs j) ≡ c
+    pub has-x : xOf fs j ≡ x
+    pub has-y : yOf fs j ≡ y
+    pub has-to : to ls i ≡ u
+    pub has-weight : w ≡ fee fs j + toll ls i
+
+  pub found : (l : ℕ) (c : Kind) (x y v u w : ℕ) → h (key l c x y) v ≡ some (u, w) → Found l c x y v u w
+  unfolding hopOf netOf linkRows funRows linkAt funAt
+  found l c x y v u w e = go (behind n p (rows (linkAt ls) 0 nl) (rows (funAt fs) 0 nf) l c x y v u w e)
+    where
+      go : Behind (rows (linkAt ls) 0 nl) (rows (funAt fs) 0 nf) l c x y v u w → Found l c x y v u w
+      go b =
+          let r = unlisted (linkAt ls) 0 nl (link l v u (b .toll)) (b .has-link) in
+          let q = unlisted (funAt fs) 0 nf (fun v c x y (b .fee)) (b .has-fun) in
+          let f : b .fee ≡ fee fs (q .at) = cc (q .is) in
+          let t : b .toll ≡ toll ls (r .at) = cc (r .is) in
+          record {
+            j = q .at;
+            i = r .at;
+            of-fun = omega (arith, q .most);
+            of-link = omega (arith, r .most);
+            at-node = cc (q .is);
+            at-from = cc (r .is);
+            has-kind = cc (q .is);
+            has-x = cc (q .is);
+            has-y = cc (q .is);
+            has-to = cc (r .is);
+            has-weight = omega (arith, b .sum);
+          }
+
+  -- the code of a function's kind
+  pub kind-is : (c : Kind) (j : ℕ) → j < nf → kindAt (kind fs j) ≡ c → kind fs j ≡ code c
+  kind-is c j hj e = sym (kind-code (kind fs j) (valid .fun-kind j hj)) ∙ ap code e
+
+  -- steps lead to places
+  pub steps-inside : fixpoint.Valid h n p
+  steps-inside = record { inside = λ l c x y v u w e. go l c x y v u w (found l c x y v u w e) }
+    where
+      go : (l : ℕ) (c : Kind) (x y v u w : ℕ) → Found l c x y v u w → (u < n) × (y < p)
+      go l c x y v u w f = (rw (← f .has-to) (valid .link-to (f .i) (f .of-link)), rw (← f .has-y) (valid .fun-y (f .j) (f .of-fun)))
