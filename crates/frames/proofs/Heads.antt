@@ -34,12 +34,12 @@ module _ (L L′ : List ℕ) (o words v h w n : ℕ) (fits : o + 5 + words ≤ l
         at-steps = there 4 (omega arith);
       }
 
-  pub blank-marks : (p i : ℕ) → T (mark p words L′ o i) → ⊥
+  pub blank-marks : (i : ℕ) → T (mark words L′ o i) → ⊥
   unfolding blank
-  blank-marks p i t =
-      let k : i / 16 < words = omega (arith, div-add-mod i 16, mark-below p words L′ o i t) in
+  blank-marks i t =
+      let k : i / 16 < words = omega (arith, div-add-mod i 16, mark-below words L′ o i t) in
       let f : o + suc (suc (suc (suc (suc (i / 16))))) ≡ o + 5 + i / 16 = omega arith in
-      mark-none p words L′ o i ((rw f at (there (suc (suc (suc (suc (suc (i / 16)))))) (omega arith))) ∙ getD-replicate {A = ℕ} words (i / 16) 0 0 k) t
+      mark-none words L′ o i ((rw f at (there (suc (suc (suc (suc (suc (i / 16)))))) (omega arith))) ∙ getD-replicate {A = ℕ} words (i / 16) 0 0 k) t
 
 pub marked-headed : {L L′ : List ℕ} {o v h w n : ℕ} (i : ℕ) → L′ ≡ withMark L o i → Headed L o v h w n → Headed L′ o v h w n
 unfolding withMark
@@ -56,7 +56,7 @@ marked-headed {L} {L′} {o} i e d =
     other j k = rw e (getD-set-other L (o + 5 + i / 16) j _ 0 (λ f. omega arith))
 
 -- the record that the numbers are of
-pub headed-held : (p words : ℕ) {L : List ℕ} {o v h w n : ℕ} → Headed L o v h w n → heldAt p words L o ≡ frame (v / p) (v % p) h w n (λ u y. mark p words L o (place p u y))
+pub headed-held : (p words : ℕ) {L : List ℕ} {o v h w n : ℕ} → Headed L o v h w n → heldAt p words L o ≡ frame (v / p) (v % p) h w n (λ u y. mark words L o (place p u y))
 unfolding heldAt
 headed-held p words {L} {o} {v} {h} {w} {n} d =
     let e : getD L (o + 2) 0 + 65536 * getD L (o + 3) 0 ≡ w = omega (arith, d .at-low, d .at-high, div-add-mod w 65536) in

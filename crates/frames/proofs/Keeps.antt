@@ -17,7 +17,7 @@ use Rattle.frames.specs.Frames.{bit, blank, withMark, mark, heldAt, held
 module _ (p words : ℕ) where
   -- ## The same entries, the same records
 
-  mark-same : (L L′ : List ℕ) (o i : ℕ) → ((j : ℕ) → j < o + (words + 5) → getD L j 0 ≡ getD L′ j 0) → mark p words L o i ≡ mark p words L′ o i
+  mark-same : (L L′ : List ℕ) (o i : ℕ) → ((j : ℕ) → j < o + (words + 5) → getD L j 0 ≡ getD L′ j 0) → mark words L o i ≡ mark words L′ o i
   unfolding mark
   mark-same L L′ o i h = go (ltb i (16 * words)) (ltb→lt i (16 * words))
     where
@@ -31,7 +31,7 @@ module _ (p words : ℕ) where
   pub held-same : (L L′ : List ℕ) (o : ℕ) → ((j : ℕ) → j < o + (words + 5) → getD L j 0 ≡ getD L′ j 0) → heldAt p words L o ≡ heldAt p words L′ o
   unfolding heldAt
   held-same L L′ o h =
-      let e : _≡_ {A = ℕ → ℕ → Bool} (λ u y. mark p words L o (place p u y)) (λ u y. mark p words L′ o (place p u y)) =
+      let e : _≡_ {A = ℕ → ℕ → Bool} (λ u y. mark words L o (place p u y)) (λ u y. mark words L′ o (place p u y)) =
       fun-ext (λ u. fun-ext (λ y. mark-same L L′ o (place p u y) h)) in
       rw (h o (omega arith), h (o + 1) (omega arith), h (o + 2) (omega arith), h (o + 3) (omega arith), h (o + 4) (omega arith), e)
 

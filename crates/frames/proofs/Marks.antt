@@ -37,13 +37,13 @@ other-digit b c h = go (three b c)
 
 -- ## Marks of a record
 
-module _ (p words : ℕ) where
+module _ (words : ℕ) where
   -- a place's digit, told by its word
-  mark-is : (L : List ℕ) (o i w : ℕ) → getD L (o + 5 + i / 16) 0 ≡ w → i < 16 * words → w / 2 ^ (i % 16) % 2 ≡ 1 → T (mark p words L o i)
+  mark-is : (L : List ℕ) (o i w : ℕ) → getD L (o + 5 + i / 16) 0 ≡ w → i < 16 * words → w / 2 ^ (i % 16) % 2 ≡ 1 → T (mark words L o i)
   unfolding mark bit
   mark-is L o i w e h d = rw (e, d, lt-ltb i (16 * words) h) tt
 
-  mark-digit : (L : List ℕ) (o i : ℕ) → T (mark p words L o i) → getD L (o + 5 + i / 16) 0 / 2 ^ (i % 16) % 2 ≡ 1
+  mark-digit : (L : List ℕ) (o i : ℕ) → T (mark words L o i) → getD L (o + 5 + i / 16) 0 / 2 ^ (i % 16) % 2 ≡ 1
   unfolding mark bit
   mark-digit L o i t = go (ltb i (16 * words)) t
     where
@@ -51,7 +51,7 @@ module _ (p words : ℕ) where
       go true t = eqb→eq _ 1 t
       go false t = absurd t
 
-  pub mark-below : (L : List ℕ) (o i : ℕ) → T (mark p words L o i) → i < 16 * words
+  pub mark-below : (L : List ℕ) (o i : ℕ) → T (mark words L o i) → i < 16 * words
   unfolding mark
   mark-below L o i t = go (ltb i (16 * words)) (ltb→lt i (16 * words)) t
     where
@@ -69,22 +69,22 @@ module _ (p words : ℕ) where
     unfolding withMark
     word-other j e = getD-set-other L (o + 5 + i / 16) (o + 5 + j / 16) _ 0 (λ f. e (omega arith))
 
-    pub mark-new : i < 16 * words → T (mark p words (withMark L o i) o i)
+    pub mark-new : i < 16 * words → T (mark words (withMark L o i) o i)
     mark-new k = mark-is (withMark L o i) o i _ (word-set i refl) k (or-digit (getD L (o + 5 + i / 16) 0) (2 ^ (i % 16)) (i % 16) ∙ rw (own-digit (i % 16)) (omega arith))
 
-    pub mark-stays : (j : ℕ) → T (mark p words L o j) → T (mark p words (withMark L o i) o j)
+    pub mark-stays : (j : ℕ) → T (mark words L o j) → T (mark words (withMark L o i) o j)
     mark-stays j t = go (ℕ-discrete (j / 16) (i / 16))
       where
-        go : Dec (j / 16 ≡ i / 16) → T (mark p words (withMark L o i) o j)
+        go : Dec (j / 16 ≡ i / 16) → T (mark words (withMark L o i) o j)
         go (yes e) =
             mark-is (withMark L o i) o j _ (word-set j e) (mark-below L o j t)
             (or-digit (getD L (o + 5 + j / 16) 0) (2 ^ (i % 16)) (j % 16) ∙ rw (mark-digit L o j t) (omega arith))
         go (no e) = mark-is (withMark L o i) o j _ (word-other j e) (mark-below L o j t) (mark-digit L o j t)
 
-    pub mark-old : (j : ℕ) → T (mark p words (withMark L o i) o j) → (j ≡ i) ⊎ T (mark p words L o j)
+    pub mark-old : (j : ℕ) → T (mark words (withMark L o i) o j) → (j ≡ i) ⊎ T (mark words L o j)
     mark-old j t = go (ℕ-discrete (j / 16) (i / 16)) (ℕ-discrete (i % 16) (j % 16))
       where
-        go : Dec (j / 16 ≡ i / 16) → Dec (i % 16 ≡ j % 16) → (j ≡ i) ⊎ T (mark p words L o j)
+        go : Dec (j / 16 ≡ i / 16) → Dec (i % 16 ≡ j % 16) → (j ≡ i) ⊎ T (mark words L o j)
         go (no e) d = inr (mark-is L o j _ refl (mark-below (withMark L o i) o j t) (ap (λ (w : ℕ). w / 2 ^ (j % 16) % 2) (sym (word-other j e)) ∙ mark-digit (withMark L o i) o j t))
         go (yes e) (yes d) = inl (omega (arith, div-add-mod j 16, div-add-mod i 16))
         go (yes e) (no d) =
@@ -93,5 +93,5 @@ module _ (p words : ℕ) where
             (omega (arith, f, or-digit (getD L (o + 5 + j / 16) 0) (2 ^ (i % 16)) (j % 16), other-digit (i % 16) (j % 16) d)))
 
   -- a word of zeros marks nothing
-  pub mark-none : (L : List ℕ) (o i : ℕ) → getD L (o + 5 + i / 16) 0 ≡ 0 → T (mark p words L o i) → ⊥
+  pub mark-none : (L : List ℕ) (o i : ℕ) → getD L (o + 5 + i / 16) 0 ≡ 0 → T (mark words L o i) → ⊥
   mark-none L o i e t = let f = ap (λ (w : ℕ). w / 2 ^ (i % 16) % 2) (sym e) ∙ mark-digit L o i t in omega (arith, f, zero-div (2 ^ (i % 16)))

@@ -35,14 +35,14 @@ pub record Headed (L : List ℕ) (o place hidden weight steps : ℕ) : Type 0 wh
 unfoldable pub withMark : List ℕ → ℕ → ℕ → List ℕ
 withMark L o i = set L (o + 5 + i / 16) (bitOr (getD L (o + 5 + i / 16) 0) (2 ^ (i % 16)))
 
-module _ (p words : ℕ) where
-  -- whether place i is marked in the record that begins at entry o
-  unfoldable pub mark : List ℕ → ℕ → ℕ → Bool
-  mark L o i = ltb i (16 * words) && bit (getD L (o + 5 + i / 16) 0) (i % 16)
+-- whether place i is marked in the record that begins at entry o
+unfoldable pub mark : (words : ℕ) → List ℕ → ℕ → ℕ → Bool
+mark words L o i = ltb i (16 * words) && bit (getD L (o + 5 + i / 16) 0) (i % 16)
 
+module _ (p words : ℕ) where
   -- the record that begins at entry o
   unfoldable pub heldAt : List ℕ → ℕ → Frame
-  heldAt L o = frame (getD L o 0 / p) (getD L o 0 % p) (getD L (o + 1) 0) (getD L (o + 2) 0 + 65536 * getD L (o + 3) 0) (getD L (o + 4) 0) (λ u y. mark L o (place p u y))
+  heldAt L o = frame (getD L o 0 / p) (getD L o 0 % p) (getD L (o + 1) 0) (getD L (o + 2) 0 + 65536 * getD L (o + 3) 0) (getD L (o + 4) 0) (λ u y. mark words L o (place p u y))
 
   -- record k
   abbrev pub held : List ℕ → ℕ → Frame

@@ -1,0 +1,54 @@
+use mathlib.Core.Path.{_≡_, refl}
+use native.Mathlib.Omega.{arith}
+use Rattle.exits.proofs.Least.{least-more, least-all}
+use Rattle.exits.specs.Lists.{finishing}
+use Prim.Native.Nat.{_+_, _-_, _≤_}
+use lib.ListN.{getD}
+use Rattle.exits.specs.Cost.{least, toldAt}
+use borrow.Author.Needs.{needs}
+use Rattle.exits.proofs.lists.finish.Statement.{statement}
+use Rattle.exits.proofs.lists.finish.Tie as tie
+
+abbrev Inv-loop : tie.InvT-loop
+Inv-loop weight count exits costs len size row best₀ i₀ best i =
+    (i ≤ len) × (best ≡ least (λ j. toldAt weight count (row + getD exits j 0) + getD costs j 0) i)
+
+abbrev μ-loop : tie.MeasureT-loop
+μ-loop weight count exits costs len size row best₀ i₀ best i = len - i
+
+loop-holds : tie.Need-loop-holds Inv-loop μ-loop
+unfolding least
+loop-holds c = (omega arith, refl)
+
+over-exit-requires : tie.Need-over-exit-requires Inv-loop μ-loop
+over-exit-requires c κs = let p = c .before .before .before .before .before .before .pre in (p .0, omega arith, p .1, p .2)
+
+smaller-requires : tie.Need-smaller-requires Inv-loop μ-loop
+smaller-requires c κs = search needs
+
+add-i : tie.Need-add-i Inv-loop μ-loop
+add-i c = search needs
+
+loop-less : tie.Need-loop-less Inv-loop μ-loop
+loop-less c = search needs
+
+loop-again : tie.Need-loop-again Inv-loop μ-loop
+loop-again c = let l = c .before .before .before .loop in (omega arith, least-more _ (l .i) _ _ _ (l .inv .1) (c .before .over-exit .ensures) (c .smaller .ensures))
+
+returns : tie.Need-returns Inv-loop μ-loop
+unfolding finishing
+returns c = let l = c .before .loop in least-all _ (l .i) _ _ (l .inv .0) (omega arith) (l .inv .1)
+
+pub finish-spec : {M : Type 1} → statement M
+finish-spec =
+    tie.close
+    (tie.spec
+    Inv-loop
+    μ-loop
+    loop-holds
+    over-exit-requires
+    smaller-requires
+    add-i
+    loop-less
+    loop-again
+    returns)
