@@ -1,15 +1,18 @@
 -- From a tunnel's exit on: over the links that leave it, and for each function that unwraps there. Assumes nothing.
 use Prim.Native.Nat.{ℕ, _+_, _*_, _<_, _≤_}
-use mathlib.Core.Path.{_≡_, sym, _∙_}
+use mathlib.Core.Path.{_≡_, refl, sym, ap, _∙_}
+use mathlib.Core.Bool.{Bool, true, false, cond}
 use mathlib.Core.List.{List}
 use native.Mathlib.Omega.{arith}
+use lib.Dec.{eqb}
 use lib.ListN.{length, set}
-use borrow.Author.Tests.{eq-eqb, ne-eqb}
+use borrow.Author.Tests.{eq-eqb, ne-eqb, eqb-true}
 use Rattle.paper.specs.Net.{place}
 use Rattle.records.specs.Columns.{from, to, toll, node, kind, xOf, yOf, fee}
-use Rattle.exits.specs.Cost.{cost, far}
+use Rattle.exits.specs.Cost.{cost, far, least}
 use Rattle.exits.specs.Lists.{Gathered, finishing}
 use Rattle.exits.specs.Exits.{landing, lands, Unwraps}
+use Rattle.exits.proofs.Least.{least-low, least-met}
 use Rattle.exits.proofs.Listing.{gathered-none, gathered-past, gathered-one}
 
 module _ (n p c : ℕ) (ls W C E A : List ℕ) (len x u i : ℕ) where
@@ -50,3 +53,29 @@ module _ {n p c : ℕ} {ls W C E A : List ℕ} {len x : ℕ} {fs : List ℕ} {O 
 
 pub unwraps-none : {n p c : ℕ} {ls W C E A : List ℕ} {len x : ℕ} {fs : List ℕ} {O F : List ℕ} → Gathered (Unwraps n p c ls W C E A len x fs) 0 O F 0
 unwraps-none = gathered-none _
+
+-- ## What the least way on from a node says
+
+module _ (n p c : ℕ) (ls W C E A : List ℕ) (len x u : ℕ) where
+  -- over link i
+  abbrev after : ℕ → ℕ
+  after i = cost (toll ls i) 1 + finishing W C E A len (place p (to ls i) x * (n * p))
+
+  pub lands-low : (i : ℕ) → i < c → from ls i ≡ u → lands n p c ls W C E A len x u ≤ after i
+  unfolding lands landing
+  lands-low i h e = omega (arith, least-low (landing n p c ls W C E A len x u) c i h, ap (λ (b : Bool). cond b (after i) far) (eq-eqb (from ls i) u e))
+
+  -- the best link
+  pub record Lands : Type 0 where
+    pub i : ℕ
+    pub below : i < c
+    pub leaves : from ls i ≡ u
+    pub is : lands n p c ls W C E A len x u ≡ after i
+
+  pub lands-met : lands n p c ls W C E A len x u < far → Lands
+  unfolding lands landing
+  lands-met h = let g = least-met (landing n p c ls W C E A len x u) c h in go (g .at) (g .below) (g .is) (eqb (from ls (g .at)) u) (eqb-true (from ls (g .at)) u) refl
+    where
+      go : (i : ℕ) → i < c → landing n p c ls W C E A len x u i ≡ least (landing n p c ls W C E A len x u) c → (b : Bool) → (b ≡ true → from ls i ≡ u) → eqb (from ls i) u ≡ b → Lands
+      go i k e true f q = record { i = i; below = k; leaves = f refl; is = sym e ∙ rw q }
+      go i k e false f q = absurd (omega (arith, (ap (λ (b : Bool). cond b (after i) far) (sym q)) ∙ e))

@@ -3,3 +3,4 @@ pub mod Told
 pub mod Listing
 pub mod Places
 pub mod Landings
+pub mod Finishing
