@@ -9,13 +9,13 @@ use Rattle.paper.specs.Limits.{heaviest, longest, over-mark}
 use Rattle.paper.specs.Net.{place}
 use Rattle.laws.specs.Value.{Value, within, over, never}
 
--- sums and orders of costs are those of the numbers, while steps stay below 16,384
+-- sums and orders of costs are those of the numbers, while steps stay below 65,536
 abbrev pub cost : ℕ → ℕ → ℕ
-cost w s = 16384 * w + s
+cost w s = w * 65536 + s
 
 -- more than any cost
 abbrev pub far : ℕ
-far = 1000000000000000000
+far = 1152921504606846976
 
 -- the cost that two entries of the tables tell; far where they tell of no route of at most 4,096 steps
 unfoldable pub told : ℕ → ℕ → ℕ

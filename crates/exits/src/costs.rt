@@ -1,4 +1,4 @@
-// A cost is weight × 16,384 + steps: numbers that are added and compared as costs are, weight first.
+// A cost is weight × 65,536 + steps: numbers that are added and compared as costs are, weight first.
 ghost use mathlib.Core.Path.{_≡_};
 ghost use Prim.Native.Nat.{_+_, _*_, _<_, _≤_, min};
 ghost use lib.ListN.{length, getD};
@@ -7,7 +7,7 @@ use paper::limits::HEAVIEST;
 use paper::limits::LONGEST;
 
 // More than any cost.
-pub const FAR: u64 = 1000000000000000000;
+pub const FAR: u64 = 1152921504606846976;
 
 fn wide(x: u32) -> u64
     ensures { λ r. ⌜ (r ≡ x) × (r < 4294967296) ⌝ }
@@ -23,9 +23,9 @@ fn wider(x: u16) -> u64
 
 // Weight and steps as a cost.
 pub fn cost_of(weight: u32, steps: u16) -> u64
-    ensures { λ r. ⌜ (r ≡ cost weight steps) × (r ≤ 100000000000000) ⌝ }
+    ensures { λ r. ⌜ (r ≡ cost weight steps) × (r < 281474976710656) ⌝ }
 {
-    16384 * wide(weight) + wider(steps)
+    wide(weight) * 65536 + wider(steps)
 }
 
 fn told_by(weight: u32, steps: u16) -> u64

@@ -22,7 +22,7 @@ fn index(x: u32) -> usize
 // What was left at the beginning of the level whose record begins at entry o.
 fn left_at(choice: &[u16], o: usize) -> u64
     requires { ⌜ o + 5 ≤ length (now choice) ⌝ }
-    ensures { λ r. ⌜ (r ≡ leftAt (now (choice .entry)) o) × (r ≤ 100000000000000) ⌝ }
+    ensures { λ r. ⌜ (r ≡ leftAt (now (choice .entry)) o) × (r < 281474976710656) ⌝ }
 {
     cost_of(weight_left(choice, o), choice[o + 4])
 }

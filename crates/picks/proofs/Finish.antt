@@ -27,7 +27,7 @@ use Rattle.exits.proofs.Told.{value-told, told-near, place-lt}
 -- ## Numbers
 
 -- a cost tells its weight and its steps
-pub cost-parts : (w n u m : ℕ) → n ≤ 16383 → m ≤ 16383 → cost w n ≡ cost u m → (w ≡ u) × (n ≡ m)
+pub cost-parts : (w n u m : ℕ) → n ≤ 65535 → m ≤ 65535 → cost w n ≡ cost u m → (w ≡ u) × (n ≡ m)
 cost-parts w n u m hn hm e = (omega arith, omega arith)
 
 -- what is least costs least

@@ -1,2 +1,5 @@
 pub mod Finish
 pub mod Tunnel
+pub mod Better
+pub mod Tries
+pub mod Serves

@@ -1,1 +1,3 @@
-// The step that the unfolding takes next.
+// The step that the unfolding takes next, and the record of a tunnel that it opens.
+pub mod funs;
+pub mod steps;
