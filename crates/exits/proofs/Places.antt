@@ -10,7 +10,7 @@ use borrow.Author.Tests.{lt-ltb}
 use Rattle.frames.specs.Frames.{bit, mark}
 use Rattle.frames.proofs.Marks.{mark-below, mark-none}
 use Rattle.exits.specs.Cost.{toldAt}
-use Rattle.exits.specs.Lists.{Lists, Gathered}
+use Rattle.exits.specs.Lists.{Lists, Gathered, Ranged}
 use Rattle.exits.specs.Exits.{leftAt, Leaves, LeavesBy, Reading}
 use Rattle.exits.proofs.Listing.{lists-as, gathered-past, gathered-one}
 use Rattle.exits.proofs.Told.{square}
@@ -81,3 +81,14 @@ level-listed {words} {size} {W} {C} {L} {o} q h k g =
       lists-as _ (Leaves words size W C L o) (λ e c s. rw (s .is .place-is) (rw (s .is .place-is) at (s .is .leaves)))
           (λ e c l. record { at = e; below = omega (arith, mark-below words L o e (l .marked)); is = record { place-is = refl; leaves = l } }) (g .lists),
     )
+
+-- a list of a level's exits is in range
+pub level-ranged : {words size : ℕ} {W C L : List ℕ} {o : ℕ} {E A : List ℕ} {len : ℕ} → ((i : ℕ) → getD L i 0 < 65536) → len ≤ length E → len ≤ length A → Lists (Leaves words size W C L o) E A len
+    → Ranged size E A len
+unfolding leftAt
+level-ranged {o = o} small e a l = record {
+  places = e;
+  costs = a;
+  place-below = λ i h. l .each i h .below;
+  cost-below = λ i h. omega (arith, l .each i h .left, small (o + 2), small (o + 3), small (o + 4));
+}

@@ -3,3 +3,4 @@ pub mod Tunnel
 pub mod Better
 pub mod Tries
 pub mod Serves
+pub mod Sought

@@ -14,7 +14,7 @@ fun-x-requires c κs = search needs
 
 -- src/funs.rt:35:9
 returns : tie.Need-returns
-returns c = let a = c  .before .before .before .args in c .fun-x .ensures ∙ unwrap-next (a .funs .now) (a .kind) (a .j) (c  .before .if1 .taken)
+returns c = let a = c .before .before .before .args in c .fun-x .ensures ∙ unwrap-next (a .funs .now) (a .kind) (a .j) (c .before .if1 .taken)
 
 -- src/funs.rt:37:5
 fun-y-requires : tie.Need-fun-y-requires
@@ -22,7 +22,7 @@ fun-y-requires c κs = search needs
 
 -- src/funs.rt:30:1
 returns-2 : tie.Need-returns-2
-returns-2 c = let a = c  .before .before .before .args in c .fun-y .ensures ∙ other-next (a .funs .now) (a .kind) (a .j) (c  .before .if1 .left)
+returns-2 c = let a = c .before .before .before .args in c .fun-y .ensures ∙ other-next (a .funs .now) (a .kind) (a .j) (c .before .if1 .left)
 
 pub next-of-spec : {M : Type 1} → statement M
 next-of-spec = tie.close (tie.spec fun-x-requires returns fun-y-requires returns-2)

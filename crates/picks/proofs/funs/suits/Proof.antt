@@ -28,7 +28,7 @@ fun-x-requires c κs = search needs
 -- src/funs.rt:41:1
 returns : tie.Need-returns
 unfolding serves
-returns c = rw (c  .before .before .before .fun-node .ensures, c  .before .before .fun-kind .ensures, c  .before .top-of .ensures, c .fun-x .ensures)
+returns c = rw (c .before .before .before .fun-node .ensures, c .before .before .fun-kind .ensures, c .before .top-of .ensures, c .fun-x .ensures)
 
 pub suits-spec : {M : Type 1} → statement M
 suits-spec =

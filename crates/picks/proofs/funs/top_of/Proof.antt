@@ -14,7 +14,7 @@ fun-y-requires c κs = search needs
 
 -- src/funs.rt:24:9
 returns : tie.Need-returns
-returns c = let a = c  .before .before .before .args in c .fun-y .ensures ∙ unwrap-top (a .funs .now) (a .kind) (a .j) (c  .before .if1 .taken)
+returns c = let a = c .before .before .before .args in c .fun-y .ensures ∙ unwrap-top (a .funs .now) (a .kind) (a .j) (c .before .if1 .taken)
 
 -- src/funs.rt:26:5
 fun-x-requires : tie.Need-fun-x-requires
@@ -22,7 +22,7 @@ fun-x-requires c κs = search needs
 
 -- src/funs.rt:19:1
 returns-2 : tie.Need-returns-2
-returns-2 c = let a = c  .before .before .before .args in c .fun-x .ensures ∙ other-top (a .funs .now) (a .kind) (a .j) (c  .before .if1 .left)
+returns-2 c = let a = c .before .before .before .args in c .fun-x .ensures ∙ other-top (a .funs .now) (a .kind) (a .j) (c .before .if1 .left)
 
 pub top-of-spec : {M : Type 1} → statement M
 top-of-spec = tie.close (tie.spec fun-y-requires returns fun-x-requires returns-2)

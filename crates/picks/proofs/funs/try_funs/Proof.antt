@@ -35,11 +35,11 @@ loop-less c = search needs
 
 -- src/funs.rt:128:5
 loop-again : tie.Need-loop-again Inv-loop μ-loop
-loop-again c = let l = c  .before .before .loop in (omega arith, any-more _ (l .j) (l .inv .1) (c .try-fun .ensures))
+loop-again c = let l = c .before .before .loop in (omega arith, any-more _ (l .j) (l .inv .1) (c .try-fun .ensures))
 
 -- src/funs.rt:106:1
 returns : tie.Need-returns Inv-loop μ-loop
-returns c = let l = c  .before .loop in any-all _ (l .j) _ (l .inv .0) (omega arith) (l .inv .1)
+returns c = let l = c .before .loop in any-all _ (l .j) _ (l .inv .0) (omega arith) (l .inv .1)
 
 pub try-funs-spec : {M : Type 1} → statement M
 try-funs-spec =
