@@ -4,3 +4,6 @@ pub mod Better
 pub mod Tries
 pub mod Serves
 pub mod Sought
+pub mod Pass
+pub mod Ways
+pub mod Picking
