@@ -7,3 +7,4 @@ pub mod Sought
 pub mod Pass
 pub mod Ways
 pub mod Picking
+pub mod Standing

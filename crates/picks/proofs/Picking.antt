@@ -129,7 +129,7 @@ module _ (n p c : ℕ) (ls : List ℕ) (d : ℕ) (fs W C : List ℕ) (D b : ℕ)
         tried-any n p c ls d fs W C (q .O) (q .F) (q .len) v x w m 1 0 (wrap-tried n p c ls d fs W C D b valid exact L o (state .nest) (q .outward) lk r z cw u j h pw pm op)
 
   -- at the bottom there is nothing to unwrap
-  bottom-better : (o : ℕ) {v x w m : ℕ} (state : State hop n p t D b (at o) [] v x w m) → 0 < m → {s₁ s₂ : Trial} → ByLevel n p c ls d fs W C L o v x w m 0 0 nothing s₁
+  pub bottom-better : (o : ℕ) {v x w m : ℕ} (state : State hop n p t D b (at o) [] v x w m) → 0 < m → {s₁ s₂ : Trial} → ByLevel n p c ls d fs W C L o v x w m 0 0 nothing s₁
       → ByTunnel n p c ls d fs W C L o v x w m s₁ s₂ → Better (Way hop n p t (at o) [] v x w m) nothing s₂
   bottom-better o {v} {x} {w} {m} state some-left l q =
       let own = own-better o state some-left l q in
@@ -145,7 +145,7 @@ module _ (n p c : ℕ) (ls : List ℕ) (d : ℕ) (fs W C : List ℕ) (D b : ℕ)
       }
 
   -- in an inner level there is
-  inner-better : (o o′ : ℕ) {gs : List Frame} {v x w m : ℕ} (state : State hop n p t D b (at o) (at o′ ∷ gs) v x w m) → 0 < m → {s₁ s₂ s₃ : Trial} → ByLevel n p c ls d fs W C L o v x w m 0 0 nothing s₁
+  pub inner-better : (o o′ : ℕ) {gs : List Frame} {v x w m : ℕ} (state : State hop n p t D b (at o) (at o′ ∷ gs) v x w m) → 0 < m → {s₁ s₂ s₃ : Trial} → ByLevel n p c ls d fs W C L o v x w m 0 0 nothing s₁
       → ByTunnel n p c ls d fs W C L o v x w m s₁ s₂ → ByLevel n p c ls d fs W C L o′ v x w m 2 (at o .hidden) s₂ s₃
       → Better (Way hop n p t (at o) (at o′ ∷ gs) v x w m) nothing s₃
   inner-better o o′ {gs} {v} {x} {w} {m} state some-left l q y =
@@ -155,9 +155,9 @@ module _ (n p c : ℕ) (ls : List ℕ) (d : ℕ) (fs W C : List ℕ) (D b : ℕ)
       (λ lk cw h pw pm ok. inl (inl (conv-own o state some-left l q lk cw h pw pm ok)))
       (λ lk cw h pw pm op. inl (inr (wrap-own o state some-left l q lk cw h pw pm op)))
       (λ g hs e lk cw hid h pw pm ok.
-          let f : at o′ ≡ g = cc in
-          inr (tried-any n p c ls d fs W C (y .E) (y .A) (y .len) v x w m 2 (at o .hidden)
-          (unwrap-tried n p c ls d fs W C D b valid exact L o′ (y .lists) (state .nest) lk _ _ cw _ _ hid h pw pm (rw (← f) at ok))))
+      let f : at o′ ≡ g = cc in
+      inr (tried-any n p c ls d fs W C (y .E) (y .A) (y .len) v x w m 2 (at o .hidden)
+      (unwrap-tried n p c ls d fs W C D b valid exact L o′ (y .lists) (state .nest) lk _ _ cw _ _ hid h pw pm (rw (← f) at ok))))
       (a .passes)))
       (λ s a. own-way o state some-left l q s a)
       (λ s a. unwrap-way n p c ls d fs W C D b valid exact L o′ (y .lists) (state .nest) (any-tried n p c ls d fs W C (y .E) (y .A) (y .len) v x w m 2 (at o .hidden) some-left (few-left state) a))

@@ -44,10 +44,13 @@ slice-aggregate-list-tunnel-2 c = search needs
 -- src/looks.rt:104:5
 list-tunnel-requires : tie.Need-list-tunnel-requires
 list-tunnel-requires c κs =
-    let p = c  .before .before .before .before .before .before .before .before .before .before .before .before .before .before .before .before .before .pre in
-    let l = c  .before .before .before .before .before .before .list-level in
-    (p .3 .valid, looked-crossing (p .3) _ (p .0) (looked-ranged (p .3) (λ i. omega (arith, c  .before .before .before .before .before .before .before .before .before .before .before .before .shared-slice-known5 .given i)) (c  .before .before .before .before .before .before .before .before .before .words-for .ensures .1) (omega (arith, l .kept .1 .1 .1 .1 .1 .1 .0)) (omega (arith, l .kept .1 .1 .1 .1 .1 .1 .1 .0)) (l .ensures .0) (l .ensures .1)),
-    omega (arith, p .3 .valid .few-funs, p .1), omega (arith, p .3 .valid .few-funs, p .2))
+    let p = c .before .before .before .before .before .before .before .before .before .before .before .before .before .before .before .before .before .pre in
+    let l = c .before .before .before .before .before .before .list-level in (
+      p .3 .valid,
+      looked-crossing (p .3) _ (p .0) (looked-ranged (p .3) (λ i. omega (arith, c .before .before .before .before .before .before .before .before .before .before .before .before .shared-slice-known5 .given i)) (c .before .before .before .before .before .before .before .before .before .words-for .ensures .1) (omega (arith, l .kept .1 .1 .1 .1 .1 .1 .0)) (omega (arith, l .kept .1 .1 .1 .1 .1 .1 .1 .0)) (l .ensures .0) (l .ensures .1)),
+      omega (arith, p .3 .valid .few-funs, p .1),
+      omega (arith, p .3 .valid .few-funs, p .2),
+    )
 
 -- src/looks.rt:73:1
 same-length : tie.Need-same-length
@@ -60,9 +63,9 @@ same-length-2 c = search needs
 -- src/looks.rt:73:1
 returns : tie.Need-returns
 returns c =
-    let p = c  .before .before .before .before .before .before .before .before .before .before .before .before .before .before .before .before .before .before .before .before .before .before .pre in
-    let t = c  .before .before .before .before .list-tunnel in
-    outward (p .3) (c  .before .before .before .before .before .before .before .before .before .before .before .before .before .before .words-for .ensures .0) (rw (t .kept .1 .1 .1 .1 .1 .1 .1 .1 .1 .1 .1 .1 .0) (p .1)) (rw (t .kept .1 .1 .1 .1 .1 .1 .1 .1 .1 .1 .1 .1 .1 .0) (p .2)) (c  .before .before .before .before .before .before .before .before .before .before .before .list-level .ensures .1) (t .ensures)
+    let p = c .before .before .before .before .before .before .before .before .before .before .before .before .before .before .before .before .before .before .before .before .before .before .pre in
+    let t = c .before .before .before .before .list-tunnel in
+    outward (p .3) (c .before .before .before .before .before .before .before .before .before .before .before .before .before .before .words-for .ensures .0) (rw (t .kept .1 .1 .1 .1 .1 .1 .1 .1 .1 .1 .1 .1 .0) (p .1)) (rw (t .kept .1 .1 .1 .1 .1 .1 .1 .1 .1 .1 .1 .1 .1 .0) (p .2)) (c .before .before .before .before .before .before .before .before .before .before .before .list-level .ensures .1) (t .ensures)
 
 pub list-outward-spec : {M : Type 1} → statement M
 list-outward-spec =
