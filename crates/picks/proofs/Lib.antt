@@ -8,3 +8,5 @@ pub mod Pass
 pub mod Ways
 pub mod Picking
 pub mod Standing
+pub mod Adding
+pub mod Opened

@@ -1,2 +1,3 @@
 pub mod Pick
 pub mod Contract
+pub mod Opening

@@ -27,7 +27,7 @@ add-o c = search needs
 
 -- src/pick.rt:53:13
 mul-o : tie.Need-mul-o
-mul-o c = let s = c  .before .before .before .before .before .before in omega (arith, record-start _ _ _ _ _ _ _ _ _ _ (s .args .k) _ (s .pre .1) (c .words-for .ensures .0))
+mul-o c = let s = c .before .before .before .before .before .before in omega (arith, record-start _ _ _ _ _ _ _ _ _ _ (s .args .k) _ (s .pre .1) (c .words-for .ensures .0))
 
 -- src/pick.rt:68:9
 nothing-requires : tie.Need-nothing-requires
@@ -35,26 +35,26 @@ nothing-requires c κs = search needs
 
 -- src/pick.rt:54:9
 look-level-requires : tie.Need-look-level-requires
-look-level-requires c κs = let s = c  .before .before .before .before .before .before .before in (omega arith, look-here _ _ _ _ _ _ _ _ _ _ (s .args .k) _ _ (s .pre .1) (s .pre .0) (c  .before .words-for .ensures .0) refl)
+look-level-requires c κs = let s = c .before .before .before .before .before .before .before in (omega arith, look-here _ _ _ _ _ _ _ _ _ _ (s .args .k) _ _ (s .pre .1) (s .pre .0) (c .before .words-for .ensures .0) refl)
 
 -- src/pick.rt:70:9
 look-tunnel-requires : tie.Need-look-tunnel-requires
-look-tunnel-requires c κs = let s = c  .before .before .before .before .before .before .before .before in (here-place _ _ _ _ _ _ _ _ _ _ (s .pre .1) .1, look-here _ _ _ _ _ _ _ _ _ _ (s .args .k) _ _ (s .pre .1) (s .pre .0) (c  .before .before .words-for .ensures .0) refl)
+look-tunnel-requires c κs = let s = c .before .before .before .before .before .before .before .before in (here-place _ _ _ _ _ _ _ _ _ _ (s .pre .1) .1, look-here _ _ _ _ _ _ _ _ _ _ (s .args .k) _ _ (s .pre .1) (s .pre .0) (c .before .before .words-for .ensures .0) refl)
 
 -- src/pick.rt:72:9
 returns : tie.Need-returns
 returns c =
-    let s = c  .before .before .before .before .before .before .before .before .before .before in
-    let e = c  .before .before .before .nothing .ensures in
-    pick-bottom _ _ _ _ _ _ _ _ _ _ (s .args .k) _ _ (s .pre .1) (s .pre .0) (c .if1 .taken) (c  .before .before .before .before .words-for .ensures .0) refl (rw (is-nothing (e .0) (e .1) (e .2) (e .3) (e .4)) at (c  .before .before .look-level .ensures)) (c  .before .look-tunnel .ensures)
+    let s = c .before .before .before .before .before .before .before .before .before .before in
+    let e = c .before .before .before .nothing .ensures in
+    pick-bottom _ _ _ _ _ _ _ _ _ _ (s .args .k) _ _ (s .pre .1) (s .pre .0) (c .if1 .taken) (c .before .before .before .before .words-for .ensures .0) refl (rw (is-nothing (e .0) (e .1) (e .2) (e .3) (e .4)) at (c .before .before .look-level .ensures)) (c .before .look-tunnel .ensures)
 
 -- src/pick.rt:74:32
 add-entry : tie.Need-add-entry
-add-entry c = let s = c  .before .before .before .before .before .before .before .before .before .before in omega (arith, record-start _ _ _ _ _ _ _ _ _ _ (s .args .k) _ (s .pre .1) (c  .before .before .before .before .words-for .ensures .0), s .good .1 .1 .1 .1 .1 .1 .1 .1 .0)
+add-entry c = let s = c .before .before .before .before .before .before .before .before .before .before in omega (arith, record-start _ _ _ _ _ _ _ _ _ _ (s .args .k) _ (s .pre .1) (c .before .before .before .before .words-for .ensures .0), s .good .1 .1 .1 .1 .1 .1 .1 .1 .0)
 
 -- src/pick.rt:74:18
 entry-requires : tie.Need-entry-requires
-entry-requires c κs = let s = c  .before .before .before .before .before .before .before .before .before .before in omega (arith, record-start _ _ _ _ _ _ _ _ _ _ (s .args .k) _ (s .pre .1) (c  .before .before .before .before .words-for .ensures .0))
+entry-requires c κs = let s = c .before .before .before .before .before .before .before .before .before .before in omega (arith, record-start _ _ _ _ _ _ _ _ _ _ (s .args .k) _ (s .pre .1) (c .before .before .before .before .words-for .ensures .0))
 
 -- src/pick.rt:74:18
 cast-hidden : tie.Need-cast-hidden
@@ -66,19 +66,19 @@ add-look-level c = search needs
 
 -- src/pick.rt:85:9
 sub-look-level : tie.Need-sub-look-level
-sub-look-level c = one-at-least _ _ (c  .before .if1 .left)
+sub-look-level c = one-at-least _ _ (c .before .if1 .left)
 
 -- src/pick.rt:75:5
 look-level-requires-2 : tie.Need-look-level-requires-2
-look-level-requires-2 c κs = let s = c  .before .before .before .before .before .before .before .before .before .before .before in (omega arith, look-below _ _ _ _ _ _ _ _ _ _ (s .args .k) _ _ (s .pre .1) (s .pre .0) (c  .before .if1 .left) (c  .before .before .before .before .before .words-for .ensures .0) refl)
+look-level-requires-2 c κs = let s = c .before .before .before .before .before .before .before .before .before .before .before in (omega arith, look-below _ _ _ _ _ _ _ _ _ _ (s .args .k) _ _ (s .pre .1) (s .pre .0) (c .before .if1 .left) (c .before .before .before .before .before .words-for .ensures .0) refl)
 
 -- src/pick.rt:35:1
 returns-2 : tie.Need-returns-2
 returns-2 c =
-    let s = c  .before .before .before .before .before .before .before .before .before .before .before .before in
-    let e = c  .before .before .before .before .before .nothing .ensures in
-    pick-inner _ _ _ _ _ _ _ _ _ _ (s .args .k) _ _ _ (s .pre .1) (s .pre .0) (c  .before .before .if1 .left) (c  .before .before .before .before .before .before .words-for .ensures .0) refl (c  .before .entry .ensures .0)
-    (rw (is-nothing (e .0) (e .1) (e .2) (e .3) (e .4)) at (c  .before .before .before .before .look-level .ensures)) (c  .before .before .before .look-tunnel .ensures) (c .look-level2 .ensures)
+    let s = c .before .before .before .before .before .before .before .before .before .before .before .before in
+    let e = c .before .before .before .before .before .nothing .ensures in
+    pick-inner _ _ _ _ _ _ _ _ _ _ (s .args .k) _ _ _ (s .pre .1) (s .pre .0) (c .before .before .if1 .left) (c .before .before .before .before .before .before .words-for .ensures .0) refl (c .before .entry .ensures .0)
+    (rw (is-nothing (e .0) (e .1) (e .2) (e .3) (e .4)) at (c .before .before .before .before .look-level .ensures)) (c .before .before .before .look-tunnel .ensures) (c .look-level2 .ensures)
 
 pub pick-spec : {M : Type 1} → statement M
 pick-spec =
