@@ -24,7 +24,7 @@ add-o c = search needs
 
 -- src/opens.rt:144:13
 mul-o : tie.Need-mul-o
-mul-o c = let s = c  .before .before .before .before .before .before in omega (arith, open-room (s .pre) _ (c .words-for .ensures .0), s .good .1 .1 .1 .1 .1 .1 .1 .1 .0)
+mul-o c = let s = c .before .before .before .before .before .before in omega (arith, open-room (s .pre) _ (c .words-for .ensures .0), s .good .1 .1 .1 .1 .1 .1 .1 .1 .0)
 
 -- src/opens.rt:160:9
 slice-aggregate-list-outward : tie.Need-slice-aggregate-list-outward
@@ -37,8 +37,8 @@ slice-aggregate-list-outward-2 c = search needs
 -- src/opens.rt:147:9
 list-outward-requires : tie.Need-list-outward-requires
 list-outward-requires c κs =
-    let s = c  .before .before .before .before .before .before .before .before .before in
-    let g = open-look (s .pre) _ _ (c  .before .before .before .words-for .ensures .0) refl in
+    let s = c .before .before .before .before .before .before .before .before .before in
+    let g = open-look (s .pre) _ _ (c .before .before .before .words-for .ensures .0) refl in
     (g .0, omega arith, omega arith, g .1)
 
 -- src/opens.rt:168:9
@@ -55,11 +55,11 @@ add-write-record c = search needs
 
 -- src/opens.rt:172:9
 add-write-record-2 : tie.Need-add-write-record-2
-add-write-record-2 c = let s = c  .before .before .before .before .before .before .before .before .before .before .before .before .before .before .before in omega (arith, open-room (s .pre) _ (c  .before .before .before .before .before .before .before .before .before .words-for .ensures .0), s .good .1 .1 .1 .1 .1 .1 .1 .1 .0)
+add-write-record-2 c = let s = c .before .before .before .before .before .before .before .before .before .before .before .before .before .before .before in omega (arith, open-room (s .pre) _ (c .before .before .before .before .before .before .before .before .before .words-for .ensures .0), s .good .1 .1 .1 .1 .1 .1 .1 .1 .0)
 
 -- src/opens.rt:163:5
 write-record-requires : tie.Need-write-record-requires
-write-record-requires c κs = let s = c  .before .before .before .before .before .before .before .before .before .before .before .before .before .before .before in open-writing (s .pre) _ _ (c  .before .before .before .before .before .before .before .before .before .words-for .ensures .0) refl (c  .before .before .before .before .before .list-outward .ensures .ranged)
+write-record-requires c κs = let s = c .before .before .before .before .before .before .before .before .before .before .before .before .before .before .before in open-writing (s .pre) _ _ (c .before .before .before .before .before .before .before .before .before .words-for .ensures .0) refl (c .before .before .before .before .before .list-outward .ensures .ranged)
 
 -- src/opens.rt:125:1
 same-length : tie.Need-same-length
@@ -68,9 +68,10 @@ same-length c = search needs
 -- src/opens.rt:125:1
 returns : tie.Need-returns
 returns c =
-    let s = c  .before .before .before .before .before .before .before .before .before .before .before .before .before .before .before .before .before .before in
-    (open-kept (s .pre) _ _ (c  .before .before .before .before .before .before .before .before .before .before .before .before .words-for .ensures .0) refl (c  .before .before .before .before .before .before .before .before .list-outward .ensures) (c  .before .before .write-record .ensures),
-    open-records (s .pre) _ _ (c  .before .before .before .before .before .before .before .before .before .before .before .before .words-for .ensures .0) refl (c  .before .before .before .before .before .before .before .before .list-outward .ensures) (c  .before .before .write-record .ensures))
+    let s = c .before .before .before .before .before .before .before .before .before .before .before .before .before .before .before .before .before .before in (
+      open-kept (s .pre) _ _ (c .before .before .before .before .before .before .before .before .before .before .before .before .words-for .ensures .0) refl (c .before .before .before .before .before .before .before .before .list-outward .ensures) (c .before .before .write-record .ensures),
+      open-records (s .pre) _ _ (c .before .before .before .before .before .before .before .before .before .before .before .before .words-for .ensures .0) refl (c .before .before .before .before .before .before .before .before .list-outward .ensures) (c .before .before .write-record .ensures),
+    )
 
 pub open-spec : {M : Type 1} → statement M
 open-spec =

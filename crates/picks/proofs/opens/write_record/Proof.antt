@@ -54,7 +54,7 @@ cost-of-requires c κs = search needs
 
 -- src/opens.rt:109:5
 mark-outs-requires : tie.Need-mark-outs-requires
-mark-outs-requires c κs = let s = c  .before .before .before .before .before .before .before .before .before .before .before .before .before .before in write-marking (s .pre) _ _ _ (c  .before .before .before .before .before .before .before .before .words-for .ensures .0) (c  .before .before .before .before .before .before .before .number .ensures .0) (c  .before .before .row-of .ensures .0) (c  .before .before .row-of .ensures .1) (c  .before .before .before .before .before .begin .kept .0)
+mark-outs-requires c κs = let s = c .before .before .before .before .before .before .before .before .before .before .before .before .before .before in write-marking (s .pre) _ _ _ (c .before .before .before .before .before .before .before .before .words-for .ensures .0) (c .before .before .before .before .before .before .before .number .ensures .0) (c .before .before .row-of .ensures .0) (c .before .before .row-of .ensures .1) (c .before .before .before .before .before .begin .kept .0)
 
 -- src/opens.rt:78:1
 same-length : tie.Need-same-length
@@ -62,7 +62,7 @@ same-length c = search needs
 
 -- src/opens.rt:78:1
 returns : tie.Need-returns
-returns c = written (c  .before .before .before .before .before .before .before .before .before .before .before .before .before .before .before .before .before .pre) _ _ _ _ _ _ _ (c  .before .before .before .before .before .before .before .before .before .before .before .words-for .ensures .0) (c  .before .before .before .before .before .before .before .before .before .before .number .ensures .0) refl (c  .before .before .before .before .before .row-of .ensures .0) (c  .before .before .before .before .cost-of .ensures .0) (c  .before .before .before .before .before .before .before .before .begin .ensures) (c  .before .before .mark-outs .ensures)
+returns c = written (c .before .before .before .before .before .before .before .before .before .before .before .before .before .before .before .before .before .pre) _ _ _ _ _ _ _ (c .before .before .before .before .before .before .before .before .before .before .before .words-for .ensures .0) (c .before .before .before .before .before .before .before .before .before .before .number .ensures .0) refl (c .before .before .before .before .before .row-of .ensures .0) (c .before .before .before .before .cost-of .ensures .0) (c .before .before .before .before .before .before .before .before .begin .ensures) (c .before .before .mark-outs .ensures)
 
 pub write-record-spec : {M : Type 1} → statement M
 write-record-spec =
