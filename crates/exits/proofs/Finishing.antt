@@ -1,11 +1,11 @@
 -- Finishing over a list of exits costs no more than over any of them, and as much as over one of them unless it is far. Assumes nothing.
 use Prim.Native.Nat.{ℕ, _+_, _<_, _≤_}
-use mathlib.Core.Path.{_≡_, ap, _∙_}
+use mathlib.Core.Path.{_≡_, ap}
 use mathlib.Core.List.{List}
 use native.Mathlib.Omega.{arith}
 use lib.ListN.{getD}
 use Rattle.exits.specs.Cost.{far, toldAt}
-use Rattle.exits.specs.Lists.{Has, Lists, finishing}
+use Rattle.exits.specs.Lists.{Lists, finishing}
 use Rattle.exits.proofs.Least.{least-low, least-met}
 
 -- the exit e, at cost c, is of Q, and the way over it costs d

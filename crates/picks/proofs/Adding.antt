@@ -1,15 +1,14 @@
 -- Marking the exits of a tunnel, one after another. Assumes nothing.
-use Prim.Native.Nat.{ℕ, suc, _+_, _*_, _/_, _%_, _^_, _<_, _≤_}
-use mathlib.Core.Path.{_≡_, refl, sym, ap, _∙_}
+use Prim.Native.Nat.{ℕ, _+_, _*_, _/_, _<_, _≤_}
+use mathlib.Core.Path.{_≡_, refl, sym, _∙_}
 use mathlib.Core.List.{List}
 use mathlib.Core.Logic.{_⊎_, inl, inr, ⊎-elim}
 use native.Mathlib.Omega.{arith}
 use native.Mathlib.Nat.{div-add-mod}
 use native.Mathlib.Decide.{decLt}
-use lib.Dec.{T}
-use lib.ListN.{length, getD, set}
+use lib.ListN.{length, getD}
 use lib.Seq.{getD-set-other}
-use Rattle.frames.specs.Frames.{mark, withMark}
+use Rattle.frames.specs.Frames.{withMark}
 use Rattle.frames.proofs.Marks.{mark-new, mark-stays, mark-old}
 use Rattle.exits.specs.Cost.{toldAt}
 use Rattle.picks.specs.Opening.{Adds, Meets, MeetsOne, Marking}

@@ -1,5 +1,5 @@
 -- The better of what was found and what is tried: laws of the order of keys, and of scans. Assumes nothing.
-use Prim.Native.Nat.{ℕ, suc, _+_, _-_, _*_, _<_, _≤_}
+use Prim.Native.Nat.{ℕ, _+_, _<_, _≤_}
 use mathlib.Core.Path.{_≡_, refl, sym, ap, _∙_}
 use mathlib.Core.Bool.{Bool, true, false, _&&_, _||_}
 use mathlib.Core.List.{List, [], _∷_}
@@ -8,13 +8,10 @@ use native.Mathlib.Omega.{arith}
 use native.Mathlib.Decide.{decLt}
 use lib.Dec.{eqb, ltb}
 use borrow.Author.Tests.{ltb-true, ltb-false, eqb-true, eqb-false}
-use Rattle.paper.specs.Net.{before, place}
+use Rattle.paper.specs.Net.{before}
 use Rattle.paper.specs.Route.{Lex}
 use Rattle.laws.proofs.Order.{lex-refl, lex-trans}
-use Rattle.records.specs.Columns.{number, from, to, toll}
-use Rattle.exits.specs.Cost.{cost}
-use Rattle.exits.specs.Lists.{finishing}
-use Rattle.picks.specs.Pick.{Trial, trial, keyOf, Better, Any, OverLink}
+use Rattle.picks.specs.Pick.{Trial, keyOf, Better, Any}
 
 -- ## The order of keys, as it is tested
 

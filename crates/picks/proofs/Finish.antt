@@ -1,25 +1,24 @@
 -- Finishing over the listed exits of a level: the least cost is what is left exactly where the level's test is passed.
 -- Assumes nothing.
-use Prim.Native.Nat.{ℕ, suc, _+_, _-_, _*_, _/_, _%_, _<_, _≤_}
-use mathlib.Core.Path.{_≡_, refl, sym, ap, _∙_}
-use mathlib.Core.Bool.{Bool}
+use Prim.Native.Nat.{ℕ, _+_, _-_, _*_, _/_, _%_, _<_, _≤_}
+use mathlib.Core.Path.{_≡_, sym}
 use mathlib.Core.List.{List}
-use mathlib.Core.Option.{Option, some}
-use mathlib.Core.Logic.{_⊎_, inl, inr, _↔_}
+use mathlib.Core.Option.{Option}
+use mathlib.Core.Logic.{inl, inr, _↔_}
 use native.Mathlib.Omega.{arith}
 use native.Mathlib.Nat.{div-add-mod', mod-lt, div-lt-iff-lt-mul}
 use lib.Dec.{T}
-use lib.ListN.{length, getD}
+use lib.ListN.{getD}
 use Rattle.paper.specs.Net.{Key, place}
 use Rattle.laws.specs.Value.{Value, within}
-use Rattle.laws.specs.Rest.{AtMost, Goes, Least}
+use Rattle.laws.specs.Rest.{AtMost}
 use Rattle.laws.specs.Unfold.{Exact, Ok, Marks, Begun, Nest, Frame, hides}
 use Rattle.laws.proofs.Fixpoint.{Valid}
 use Rattle.laws.proofs.Tight.{ok-rest}
 use Rattle.laws.proofs.Nest.{marks, inmost, nest-begun}
-use Rattle.frames.specs.Frames.{mark, heldAt}
+use Rattle.frames.specs.Frames.{heldAt}
 use Rattle.exits.specs.Cost.{cost, far, told, toldAt, table}
-use Rattle.exits.specs.Lists.{Has, Lists, finishing}
+use Rattle.exits.specs.Lists.{Lists, finishing}
 use Rattle.exits.specs.Exits.{leftAt, Leaves}
 use Rattle.exits.proofs.Finishing.{finish-low, finish-met}
 use Rattle.exits.proofs.Told.{value-told, told-near, place-lt}

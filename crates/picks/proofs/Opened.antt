@@ -1,29 +1,26 @@
 -- The record of a tunnel, once it is written, says what the unfolding asks of it. Assumes nothing.
-use Prim.Native.Nat.{ℕ, suc, _+_, _-_, _*_, _/_, _%_, _<_, _≤_}
-use mathlib.Core.Path.{_≡_, refl, sym, ap, _∙_}
+use Prim.Native.Nat.{ℕ, suc, _+_, _*_, _/_, _%_, _<_, _≤_}
+use mathlib.Core.Path.{_≡_, sym, _∙_}
 use mathlib.Core.List.{List}
 use mathlib.Core.Option.{Option}
-use mathlib.Core.Logic.{_⊎_, inl, inr, ⊎-elim, _↔_}
+use mathlib.Core.Logic.{_⊎_, ⊎-elim}
 use native.Mathlib.Omega.{arith}
-use native.Mathlib.Nat.{div-add-mod}
 use lib.Dec.{T}
-use lib.ListN.{length, getD}
+use lib.ListN.{length}
 use Rattle.paper.specs.Net.{Key, place}
 use Rattle.paper.specs.Rooms.{laid}
-use Rattle.laws.specs.Value.{Value}
-use Rattle.laws.specs.Unfold.{Frame, frame, Opens}
-use Rattle.laws.proofs.Laid.{laid-before, length-laid}
+use Rattle.laws.specs.Unfold.{frame, Opens}
+use Rattle.laws.proofs.Laid.{laid-before}
 use Rattle.records.specs.Columns.{hopOf}
 use Rattle.records.proofs.Links.{steps-inside}
-use Rattle.frames.specs.Frames.{wordsFor, blank, Headed, mark, heldAt, held, Kept}
+use Rattle.frames.specs.Frames.{wordsFor, blank, mark, held, Kept}
 use Rattle.frames.proofs.Heads.{blank-headed, blank-marks, headed-held}
 use Rattle.frames.proofs.Keeps.{kept-held}
-use Rattle.exits.specs.Cost.{cost, toldAt, table}
+use Rattle.exits.specs.Cost.{cost, table}
 use Rattle.exits.specs.Lists.{Ranged}
-use Rattle.exits.proofs.Told.{row-le, place-lt}
 use Rattle.picks.specs.Pick.{Outward, Looking}
 use Rattle.picks.specs.Contract.{Records}
-use Rattle.picks.specs.Opening.{Adds, Meets, MeetsOne, Marking, Opening, Writing, Written}
+use Rattle.picks.specs.Opening.{Adds, MeetsOne, Marking, Opening, Writing, Written}
 use Rattle.picks.proofs.Tunnel.{place-parts, listed-opens, opens-listed}
 use Rattle.picks.proofs.Standing.{here-place, look-here}
 

@@ -1,19 +1,17 @@
 -- The steps that pass, kind by kind, are those that the scans try; so the better of them all is the step picked. Assumes nothing.
 use Prim.Native.Nat.{ℕ, suc, _+_, _-_, _*_, _<_, _≤_}
-use mathlib.Core.Path.{_≡_, refl, sym, ap, _∙_}
-use mathlib.Core.Bool.{Bool, true, false, not, _&&_, _||_}
+use mathlib.Core.Path.{_≡_, refl}
+use mathlib.Core.Bool.{Bool, true, false, not, _||_}
 use mathlib.Core.List.{List, [], _∷_}
-use mathlib.Core.Option.{Option, some}
-use mathlib.Core.Logic.{_⊎_, inl, inr, ⊎-elim, _↔_}
 use native.Mathlib.Omega.{arith}
 use lib.Dec.{eqb}
 use borrow.Author.Tests.{eqb-true, eq-eqb}
-use Rattle.paper.specs.Net.{Key, key, place}
+use Rattle.paper.specs.Net.{place}
 use Rattle.laws.proofs.Before.{and-left, and-right}
 use Rattle.records.specs.Columns.{number, from, to, toll, node, kind, xOf, yOf, fee}
 use Rattle.exits.specs.Cost.{cost}
 use Rattle.exits.specs.Lists.{finishing}
-use Rattle.picks.specs.Pick.{Trial, trial, Any, OverLink, ByFun, topOf, nextOf, serves}
+use Rattle.picks.specs.Pick.{Trial, trial, Any, ByFun, topOf, nextOf, serves}
 
 -- what a function that serves is
 pub record Served (fs : List ℕ) (v k x h j : ℕ) : Type 0 where

@@ -1,25 +1,24 @@
 -- The better of all steps that pass is the step picked. Assumes nothing.
-use Prim.Native.Nat.{ℕ, zero, suc, _+_, _-_, _*_, _<_, _≤_}
-use mathlib.Core.Path.{_≡_, refl, sym, ap, _∙_}
+use Prim.Native.Nat.{ℕ, zero, suc, _+_, _*_, _<_, _≤_}
+use mathlib.Core.Path.{_≡_, refl}
 use mathlib.Core.List.{List, [], _∷_}
 use mathlib.Core.Option.{Option, some}
 use mathlib.Core.Logic.{_⊎_, inl, inr, ⊎-elim}
 use native.Mathlib.Omega.{arith}
-use lib.ListN.{length, getD}
-use Rattle.paper.specs.Net.{Kind, conv, wrap, unwrap, code, Key, key, place}
+use Rattle.paper.specs.Net.{Kind, conv, wrap, unwrap, code, Key, key}
 use Rattle.paper.specs.Route.{Lex, flat}
 use Rattle.laws.specs.Value.{Value}
-use Rattle.laws.specs.Unfold.{Exact, Ok, Opened, Passes, conv-passes, wrap-passes, unwrap-passes, Picked, Begun, Nest, State, Frame, hides}
+use Rattle.laws.specs.Unfold.{Exact, Ok, Opened, Passes, conv-passes, wrap-passes, unwrap-passes, State, Frame}
 use Rattle.laws.proofs.Fixpoint as fixpoint
 use Rattle.laws.proofs.Nest.{nest-begun}
 use Rattle.laws.proofs.Unfold.{passes-hop, some-passes}
-use Rattle.records.specs.Columns.{number, hopOf}
+use Rattle.records.specs.Columns.{hopOf}
 use Rattle.records.specs.Valid.{Valid}
 use Rattle.records.proofs.Links.{found, steps-inside}
-use Rattle.frames.specs.Frames.{wordsFor, heldAt, held, below}
+use Rattle.frames.specs.Frames.{wordsFor, heldAt}
 use Rattle.exits.specs.Cost.{table}
 use Rattle.picks.specs.Pick.{Trial, trial, keyOf, Better, Any, ByFun, ByLevel, ByTunnel}
-use Rattle.picks.specs.Contract.{Taken, Stands}
+use Rattle.picks.specs.Contract.{Taken}
 use Rattle.picks.proofs.Better.{better-then}
 use Rattle.picks.proofs.Pass.{any-tried, tried-any}
 use Rattle.picks.proofs.Ways.{Way, conv-way, conv-tried, unwrap-way, unwrap-tried, wrap-way, wrap-tried}

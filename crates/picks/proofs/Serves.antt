@@ -1,16 +1,13 @@
 -- Functions that serve at a place, tried over every link. Assumes nothing.
-use Prim.Native.Nat.{ℕ, _+_, _*_, _<_, _≤_}
-use mathlib.Core.Path.{_≡_, refl, sym, ap, _∙_}
+use Prim.Native.Nat.{ℕ, _<_}
+use mathlib.Core.Path.{_≡_, sym, _∙_}
 use mathlib.Core.Bool.{Bool, true, false, cond}
 use mathlib.Core.List.{List}
 use mathlib.Core.Logic.{_⊎_, inl, inr, ⊎-elim}
 use native.Mathlib.Omega.{arith}
 use lib.Dec.{eqb}
-use lib.ListN.{length}
-use borrow.Author.Tests.{eq-eqb, ne-eqb}
+use borrow.Author.Tests.{ne-eqb}
 use Rattle.records.specs.Columns.{xOf, yOf, fee}
-use Rattle.records.specs.Valid.{Valid}
-use Rattle.exits.specs.Exits.{Crossing}
 use Rattle.picks.specs.Pick.{Trial, Better, Any, OverLink, ByFun, Trying, Scanning, topOf, nextOf, serves}
 use Rattle.picks.proofs.Better.{better-none}
 

@@ -1,10 +1,9 @@
 -- What looking for a step hands on. Assumes nothing.
-use Prim.Native.Nat.{ℕ, _+_, _*_, _<_, _≤_}
-use mathlib.Core.Path.{_≡_, refl, sym, ap, _∙_}
+use Prim.Native.Nat.{ℕ, _*_, _<_, _≤_}
+use mathlib.Core.Path.{_≡_}
 use mathlib.Core.List.{List}
 use native.Mathlib.Omega.{arith}
 use lib.ListN.{length, getD}
-use Rattle.paper.specs.Net.{place}
 use Rattle.records.specs.Columns.{node, yOf}
 use Rattle.frames.specs.Frames.{wordsFor}
 use Rattle.exits.specs.Lists.{Lists, Gathered, Ranged}

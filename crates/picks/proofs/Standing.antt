@@ -1,7 +1,7 @@
 -- What is known where the unfolding stands: the records that are looked at begin at places, and the step found is the one picked.
 -- Assumes nothing.
 use Prim.Native.Nat.{ℕ, zero, suc, _+_, _-_, _*_, _/_, _%_, _<_, _≤_}
-use mathlib.Core.Path.{_≡_, refl, sym, ap, _∙_}
+use mathlib.Core.Path.{_≡_, refl}
 use mathlib.Core.List.{List, [], _∷_}
 use mathlib.Core.Option.{Option}
 use native.Mathlib.Omega.{arith}
@@ -9,7 +9,7 @@ use native.Mathlib.Nat.{div-add-mod', mul-suc}
 use lib.ListN.{length, getD}
 use Rattle.paper.specs.Net.{Key, place}
 use Rattle.laws.specs.Value.{Value}
-use Rattle.laws.specs.Unfold.{Exact, Begun, Nest, over, State, Frame, hides}
+use Rattle.laws.specs.Unfold.{Exact, Nest, over, Frame}
 use Rattle.laws.proofs.Fixpoint as fixpoint
 use Rattle.laws.proofs.Nest.{inmost, nest-begun}
 use Rattle.records.specs.Columns.{hopOf}

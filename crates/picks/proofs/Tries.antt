@@ -1,6 +1,6 @@
 -- One function tried over one link: it is passed over, or it is the better step. Assumes nothing.
-use Prim.Native.Nat.{ℕ, suc, _+_, _-_, _*_, _<_, _≤_}
-use mathlib.Core.Path.{_≡_, refl, sym, ap, _∙_}
+use Prim.Native.Nat.{ℕ, _+_, _-_, _*_, _≤_}
+use mathlib.Core.Path.{_≡_, sym, _∙_}
 use mathlib.Core.Bool.{Bool, true, false}
 use mathlib.Core.List.{List, [], _∷_}
 use native.Mathlib.Omega.{arith}
@@ -8,7 +8,7 @@ use Rattle.paper.specs.Net.{before, place}
 use Rattle.records.specs.Columns.{number, from, to, toll}
 use Rattle.exits.specs.Cost.{cost}
 use Rattle.exits.specs.Lists.{finishing}
-use Rattle.picks.specs.Pick.{Trial, trial, keyOf, Better, OverLink}
+use Rattle.picks.specs.Pick.{trial, keyOf, Better, OverLink}
 use Rattle.picks.proofs.Better.{before-lex, not-before-lex, better-same, better-none, better-new}
 
 -- what is spent is no more than is left

@@ -1,26 +1,26 @@
 -- The listed exits of a tunnel that may be opened: finishing over them costs what is left exactly where the tunnel has an exit, and those at which it does are its exits.
 -- Assumes nothing.
-use Prim.Native.Nat.{ℕ, suc, _+_, _-_, _*_, _/_, _%_, _<_, _≤_}
-use mathlib.Core.Path.{_≡_, refl, sym, ap, _∙_}
+use Prim.Native.Nat.{ℕ, suc, _+_, _*_, _/_, _%_, _<_, _≤_}
+use mathlib.Core.Path.{_≡_, refl, ap, _∙_}
 use mathlib.Core.List.{List, _∷_}
 use mathlib.Core.Option.{Option, some}
 use mathlib.Core.Logic.{_↔_}
 use native.Mathlib.Omega.{arith}
 use native.Mathlib.Nat.{add-zero, div-add-mod', mod-lt, mod-eq-of-lt, div-eq-of-lt, div-lt-iff-lt-mul, mul-add-div-right, mul-add-mod-self-right}
-use lib.ListN.{length, getD, length-append}
+use lib.ListN.{getD, length-append}
 use Rattle.paper.specs.Net.{wrap, unwrap, Key, key, place}
 use Rattle.laws.specs.Level.{keys}
-use Rattle.laws.specs.Value.{Value, within}
-use Rattle.laws.specs.Rest.{AtMost, trail, rest, path, price, Goes, Least}
+use Rattle.laws.specs.Value.{Value}
+use Rattle.laws.specs.Rest.{trail, rest, path, price}
 use Rattle.laws.specs.Unfold.{Exact, Ok, Opens, Opened, Marks, Begun, Nest, Frame, hides}
 use Rattle.laws.proofs.Tight.{ok-rest, goes-exit, table-level}
 use Rattle.laws.proofs.Nest.{marks, inmost, nest-begun, begun-wrap}
-use Rattle.records.specs.Columns.{number, from, to, toll, node, kind, xOf, yOf, fee, kindAt, hopOf}
+use Rattle.records.specs.Columns.{number, from, to, toll, node, yOf, fee, kindAt, hopOf}
 use Rattle.records.specs.Valid.{Valid}
 use Rattle.records.proofs.Links.{step-at, found, kind-is, steps-inside}
 use Rattle.frames.specs.Frames.{heldAt}
 use Rattle.exits.specs.Cost.{cost, far, toldAt}
-use Rattle.exits.specs.Lists.{Has, Lists, Some, Gathered, finishing}
+use Rattle.exits.specs.Lists.{Lists, Some, Gathered, finishing}
 use Rattle.exits.specs.Exits.{Leaves, lands, Unwraps}
 use Rattle.exits.proofs.Finishing.{finish-low, finish-met}
 use Rattle.exits.proofs.Landings.{lands-low, lands-met}

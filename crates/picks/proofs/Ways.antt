@@ -1,29 +1,27 @@
 -- The steps that pass where the unfolding stands: those of each kind are the ones that are tried with the exits of its record.
 -- Assumes nothing.
-use Prim.Native.Nat.{ℕ, suc, _+_, _-_, _*_, _<_, _≤_}
-use mathlib.Core.Path.{_≡_, refl, sym, ap, _∙_}
+use Prim.Native.Nat.{ℕ, suc, _+_, _*_}
+use mathlib.Core.Path.{_≡_, refl, sym, _∙_}
 use mathlib.Core.List.{List, [], _∷_}
 use mathlib.Core.Option.{Option, some}
-use mathlib.Core.Logic.{_⊎_, inl, inr, _↔_}
 use native.Mathlib.Omega.{arith}
-use lib.ListN.{getD}
-use Rattle.paper.specs.Net.{conv, wrap, unwrap, Key, key, place}
+use Rattle.paper.specs.Net.{conv, wrap, unwrap, Key, key}
 use Rattle.paper.specs.Route.{flat}
 use Rattle.laws.specs.Value.{Value}
 use Rattle.laws.specs.Unfold.{Exact, Ok, Opened, Passes, conv-passes, wrap-passes, unwrap-passes, Nest, Frame}
 use Rattle.laws.proofs.Fixpoint as fixpoint
 use Rattle.laws.proofs.Nest.{way-conv, nest-way, nest-unwrap}
-use Rattle.records.specs.Columns.{number, from, to, toll, node, kind, xOf, yOf, fee, kindAt, hopOf}
+use Rattle.records.specs.Columns.{number, from, to, toll, kind, xOf, yOf, fee, kindAt, hopOf}
 use Rattle.records.specs.Valid.{Valid}
 use Rattle.records.proofs.Links.{step-at, found, kind-is, steps-inside}
 use Rattle.frames.specs.Frames.{wordsFor, heldAt}
-use Rattle.exits.specs.Cost.{cost, table}
-use Rattle.exits.specs.Lists.{Lists, Gathered, finishing}
-use Rattle.exits.specs.Exits.{Leaves, Unwraps}
+use Rattle.exits.specs.Cost.{table}
+use Rattle.exits.specs.Lists.{Lists}
+use Rattle.exits.specs.Exits.{Leaves}
 use Rattle.picks.specs.Pick.{Trial, trial, Outward, topOf, nextOf}
 use Rattle.picks.proofs.Finish.{level-test}
 use Rattle.picks.proofs.Tunnel.{tunnel-test}
-use Rattle.picks.proofs.Pass.{Served, Tried}
+use Rattle.picks.proofs.Pass.{Tried}
 
 -- a step that passes, as a trial
 pub record Way (hop : Key → ℕ → Option (ℕ × ℕ)) (n p : ℕ) (t : ℕ → ℕ → ℕ → ℕ → Value) (g : Frame) (gs : List Frame) (v x w m : ℕ) (s : Trial) : Type 0 where

@@ -1,33 +1,32 @@
 -- Over the rooms: the loop in `level` keeps its invariant, and `level` and `tunnel` ensure what they must if the calls that they make do.
 -- Assumes nothing.
 use Prim.Native.Nat.{ℕ, zero, suc, _+_, _-_, _*_, _<_, _≤_}
-use mathlib.Core.Path.{_≡_, refl, sym, ap, _∙_}
-use mathlib.Core.Bool.{Bool}
+use mathlib.Core.Path.{_≡_, refl, sym, _∙_}
 use mathlib.Core.List.{List, [], _∷_, _++_}
 use mathlib.Core.Option.{Option, some}
 use mathlib.Core.Logic.{_↔_}
 use native.Mathlib.Omega.{arith}
-use native.Mathlib.Nat.{le-refl, mul-le-mul-right}
+use native.Mathlib.Nat.{mul-le-mul-right}
 use lib.Dec.{T}
 use lib.ListN.{length}
 use Rattle.paper.specs.Net.{conv, wrap, unwrap, Key, key}
 use Rattle.paper.specs.Rooms.{laid}
-use Rattle.paper.specs.Route.{flat, Best}
-use Rattle.laws.specs.Value.{Value, within}
-use Rattle.laws.specs.Unfold.{Exact, Opens, Picked, Passes, wrap-passes, State, Frame, frame, Levelled, Tunnelled}
+use Rattle.paper.specs.Route.{flat}
+use Rattle.laws.specs.Value.{Value}
+use Rattle.laws.specs.Unfold.{Exact, Opens, Picked, Passes, wrap-passes, Frame, frame, Levelled, Tunnelled}
 use Rattle.laws.proofs.Fixpoint as fixpoint
-use Rattle.laws.proofs.Laid.{laid-none, length-laid}
-use Rattle.laws.proofs.Unfold.{level-enter, level-conv, level-tunnel, level-close, level-end, inner-left, bottom-unwrap, tunnel-enter, tunnel-close, passes-falls, start, unfold-best}
+use Rattle.laws.proofs.Laid.{laid-none}
+use Rattle.laws.proofs.Unfold.{level-enter, level-conv, level-tunnel, level-close, level-end, inner-left, bottom-unwrap, tunnel-enter, tunnel-close, passes-falls}
 use Rattle.laws.proofs.Room.{few-levels, records-fit}
 use Rattle.records.specs.Columns.{hopOf}
 use Rattle.records.specs.Valid.{Valid}
 use Rattle.records.proofs.Links.{steps-inside}
 use Rattle.frames.specs.Frames.{wordsFor, heldAt, held, below, Kept}
 use Rattle.frames.proofs.Keeps.{kept-held, kept-below, kept-none, kept-then, kept-fewer, below-length}
-use Rattle.exits.specs.Cost.{table, Square}
-use Rattle.picks.specs.Contract.{Taken, Stands, Records}
+use Rattle.exits.specs.Cost.{table}
+use Rattle.picks.specs.Contract.{Records}
 use Rattle.picks.specs.Opening.{Opening}
-use Rattle.unfold.specs.Contract.{Asks, LevelEnsures, TunnelEnsures, Inside, Bottom}
+use Rattle.unfold.specs.Contract.{Asks, LevelEnsures, TunnelEnsures, Inside}
 use Rattle.unfold.proofs.Writes.{wrote-then, TakenAs}
 
 module _ (n p c : ℕ) (ls : List ℕ) (d : ℕ) (fs W C : List ℕ) (D b total : ℕ) where

@@ -3,6 +3,8 @@
 use Prim.Native.Nat.{ℕ, _+_, _*_, _<_, _≤_}
 use mathlib.Core.Path.{_≡_}
 use mathlib.Core.List.{List}
+use mathlib.Core.Logic.{_↔_}
+use lib.Dec.{T}
 use lib.ListN.{length, getD, replicate}
 use Rattle.paper.specs.Limits.{heaviest, longest}
 use Rattle.paper.specs.Net.{Key, place}
@@ -11,6 +13,7 @@ use Rattle.paper.specs.Route.{flat, Best}
 use Rattle.laws.specs.Unfold.{Exact}
 use Rattle.records.specs.Columns.{hopOf}
 use Rattle.records.specs.Valid.{Valid}
+use Rattle.frames.specs.Frames.{wordsFor, Headed, mark}
 use Rattle.exits.specs.Cost.{table}
 
 -- where the enquiry's entry stands in the weight and count rooms
@@ -42,3 +45,15 @@ module _ (n p c : ℕ) (ls : List ℕ) (d : ℕ) (fs W C : List ℕ) (S a D b : 
     pub steps : length ks ≡ getD C (entryAt n p S a D b) 0
     pub wrote : Q′ ≡ laid Q 0 (flat ks)
     pub choices : L′ ≡ laid L 0 (replicate (8 * (n * p * (n * p))) 0)
+
+  -- what is written of it before the choice room is cleared
+  pub record Route (Q Q′ : List ℕ) : Type 0 where
+    pub ks : List Key
+    pub best : Best (hopOf n p c ls d fs) S a D b ks (getD W (entryAt n p S a D b) 0)
+    pub steps : length ks ≡ getD C (entryAt n p S a D b) 0
+    pub wrote : Q′ ≡ laid Q 0 (flat ks)
+
+-- the record of the bottom level is written at entry 0: it begins at S, a with w, s left, and its one exit is D, b
+pub record Bottomed (n p : ℕ) (L : List ℕ) (S a D b w s : ℕ) : Type 0 where
+  pub headed : Headed L 0 (place p S a) 0 w s
+  pub marks : (e : ℕ) → T (mark (wordsFor (n * p)) L 0 e) ↔ (e ≡ place p D b)

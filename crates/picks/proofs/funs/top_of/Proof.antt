@@ -3,24 +3,16 @@ use Rattle.picks.proofs.Serves.{unwrap-top, other-top}
 use borrow.Author.Needs.{needs}
 use Rattle.picks.proofs.funs.top_of.Statement.{statement}
 use Rattle.picks.proofs.funs.top_of.Tie as tie
-use Rattle.picks.proofs.funs.top_of.Reads as reads
-use Rattle.picks.proofs.funs.top_of.Lts as lts
-use Rattle.records.proofs.fun_x.Reads as fun-x-reads
-use Rattle.records.proofs.fun_y.Reads as fun-y-reads
 
--- src/funs.rt:24:9
 fun-y-requires : tie.Need-fun-y-requires
 fun-y-requires c κs = search needs
 
--- src/funs.rt:24:9
 returns : tie.Need-returns
 returns c = let a = c .before .before .before .args in c .fun-y .ensures ∙ unwrap-top (a .funs .now) (a .kind) (a .j) (c .before .if1 .taken)
 
--- src/funs.rt:26:5
 fun-x-requires : tie.Need-fun-x-requires
 fun-x-requires c κs = search needs
 
--- src/funs.rt:19:1
 returns-2 : tie.Need-returns-2
 returns-2 c = let a = c .before .before .before .args in c .fun-x .ensures ∙ other-top (a .funs .now) (a .kind) (a .j) (c .before .if1 .left)
 

@@ -4,24 +4,16 @@ use Rattle.picks.proofs.Serves.{trying, fun-passed, fun-tried}
 use borrow.Author.Needs.{needs}
 use Rattle.picks.proofs.funs.try_fun.Statement.{statement}
 use Rattle.picks.proofs.funs.try_fun.Tie as tie
-use Rattle.picks.proofs.funs.try_fun.Reads as reads
-use Rattle.picks.proofs.funs.try_fun.Lts as lts
-use Rattle.picks.proofs.funs.suits.Reads as suits-reads
-use Rattle.picks.proofs.funs.use_of.Reads as use-of-reads
-use Rattle.picks.proofs.steps.try_links.Reads as try-links-reads
 
--- src/funs.rt:86:9
 suits-requires : tie.Need-suits-requires
 suits-requires c κs = search needs
 
--- src/funs.rt:87:9
 returns : tie.Need-returns
 returns c =
     let a = c .before .before .before .before .before .before .before .before .args in
     fun-passed (a .n) (a .p) (a .c) (a .links .now) (a .funs .now) (a .weight .now) (a .count .now) (a .exits .now) (a .costs .now) (a .len) (a .at .node) (a .at .protocol) (a .at .weight) (a .at .left) (a .kind) (a .hidden) (a .j)
     _ (c .before .suits .ensures) (not-true _ (c .if1 .taken))
 
--- src/funs.rt:100:9
 use-of-requires : tie.Need-use-of-requires
 use-of-requires c κs =
     let p = c .before .before .before .before .before .before .before .before .pre in
@@ -29,11 +21,9 @@ use-of-requires c κs =
     let v = p .2 .valid in
     (omega (arith, v .fun-room, p .0), omega (arith, p .1), omega (arith, v .fun-x j (p .0), v .protocols), omega (arith, v .fun-y j (p .0), v .protocols))
 
--- src/funs.rt:89:5
 try-links-requires : tie.Need-try-links-requires
 try-links-requires c κs = let p = c .before .before .before .before .before .before .before .before .before .pre in let u = c .use-of .ensures in trying (c .before .before .before .before .before .before .before .before .before .args .kind) (c .before .before .before .before .before .before .before .before .before .args .j) _ _ (p .2) (p .0) (u .3) (u .4)
 
--- src/funs.rt:65:1
 returns-2 : tie.Need-returns-2
 returns-2 c =
     let a = c .before .before .before .before .before .before .before .before .before .before .args in

@@ -2,13 +2,9 @@ use native.Mathlib.Omega.{arith}
 use Rattle.picks.proofs.Better.{any-none, any-more, any-all}
 use borrow.Author.Needs.{needs}
 use Prim.Native.Nat.{_-_, _≤_}
-use mathlib.Core.Path.{_≡_, refl}
 use Rattle.picks.specs.Pick.{trial, Better, Any, ByFun}
 use Rattle.picks.proofs.funs.try_funs.Statement.{statement}
 use Rattle.picks.proofs.funs.try_funs.Tie as tie
-use Rattle.picks.proofs.funs.try_funs.Reads as reads
-use Rattle.picks.proofs.funs.try_funs.Lts as lts
-use Rattle.picks.proofs.funs.try_fun.Reads as try-fun-reads
 
 abbrev Inv-loop : tie.InvT-loop
 Inv-loop links c funs d n p weight count exits costs len at kind hidden found₀ j₀ found j =
@@ -17,27 +13,21 @@ Inv-loop links c funs d n p weight count exits costs len at kind hidden found₀
 abbrev μ-loop : tie.MeasureT-loop
 μ-loop links c funs d n p weight count exits costs len at kind hidden found₀ j₀ found j = d - j
 
--- src/funs.rt:128:5
 loop-holds : tie.Need-loop-holds Inv-loop μ-loop
 loop-holds c = (omega arith, any-none _)
 
--- src/funs.rt:129:9
 try-fun-requires : tie.Need-try-fun-requires Inv-loop μ-loop
 try-fun-requires c κs = search needs
 
--- src/funs.rt:147:9
 add-j : tie.Need-add-j Inv-loop μ-loop
 add-j c = search needs
 
--- src/funs.rt:128:5
 loop-less : tie.Need-loop-less Inv-loop μ-loop
 loop-less c = search needs
 
--- src/funs.rt:128:5
 loop-again : tie.Need-loop-again Inv-loop μ-loop
 loop-again c = let l = c .before .before .loop in (omega arith, any-more _ (l .j) (l .inv .1) (c .try-fun .ensures))
 
--- src/funs.rt:106:1
 returns : tie.Need-returns Inv-loop μ-loop
 returns c = let l = c .before .loop in any-all _ (l .j) _ (l .inv .0) (omega arith) (l .inv .1)
 

@@ -3,45 +3,31 @@ use Rattle.picks.proofs.Sought.{looked-ranged, looked-crossing, outward
 use borrow.Author.Needs.{needs}
 use Rattle.picks.proofs.looks.list_outward.Statement.{statement}
 use Rattle.picks.proofs.looks.list_outward.Tie as tie
-use Rattle.picks.proofs.looks.list_outward.Reads as reads
-use Rattle.picks.proofs.looks.list_outward.Lts as lts
-use Rattle.exits.proofs.levels.list_level.Reads as list-level-reads
-use Rattle.exits.proofs.tunnels.list_tunnel.Reads as list-tunnel-reads
-use Rattle.picks.proofs.looks.words_for.Reads as words-for-reads
 
--- src/looks.rt:97:19
 mul-words-for : tie.Need-mul-words-for
 mul-words-for c = search needs
 
--- src/looks.rt:97:9
 words-for-requires : tie.Need-words-for-requires
 words-for-requires c κs = search needs
 
--- src/looks.rt:100:9
 mul-list-level : tie.Need-mul-list-level
 mul-list-level c = search needs
 
--- src/looks.rt:101:9
 slice-aggregate-list-level : tie.Need-slice-aggregate-list-level
 slice-aggregate-list-level c = search needs
 
--- src/looks.rt:102:9
 slice-aggregate-list-level-2 : tie.Need-slice-aggregate-list-level-2
 slice-aggregate-list-level-2 c = search needs
 
--- src/looks.rt:94:9
 list-level-requires : tie.Need-list-level-requires
 list-level-requires c κs = search needs
 
--- src/looks.rt:113:9
 slice-aggregate-list-tunnel : tie.Need-slice-aggregate-list-tunnel
 slice-aggregate-list-tunnel c = search needs
 
--- src/looks.rt:114:9
 slice-aggregate-list-tunnel-2 : tie.Need-slice-aggregate-list-tunnel-2
 slice-aggregate-list-tunnel-2 c = search needs
 
--- src/looks.rt:104:5
 list-tunnel-requires : tie.Need-list-tunnel-requires
 list-tunnel-requires c κs =
     let p = c .before .before .before .before .before .before .before .before .before .before .before .before .before .before .before .before .before .pre in
@@ -52,15 +38,12 @@ list-tunnel-requires c κs =
       omega (arith, p .3 .valid .few-funs, p .2),
     )
 
--- src/looks.rt:73:1
 same-length : tie.Need-same-length
 same-length c = search needs
 
--- src/looks.rt:73:1
 same-length-2 : tie.Need-same-length-2
 same-length-2 c = search needs
 
--- src/looks.rt:73:1
 returns : tie.Need-returns
 returns c =
     let p = c .before .before .before .before .before .before .before .before .before .before .before .before .before .before .before .before .before .before .before .before .before .before .pre in

@@ -2,36 +2,25 @@ use Rattle.picks.proofs.Adding.{exit-below, exit-marked, exit-left}
 use borrow.Author.Needs.{needs}
 use Rattle.picks.proofs.opens.mark_out.Statement.{statement}
 use Rattle.picks.proofs.opens.mark_out.Tie as tie
-use Rattle.picks.proofs.opens.mark_out.Reads as reads
-use Rattle.picks.proofs.opens.mark_out.Lts as lts
-use Rattle.exits.proofs.lists.exit_at.Reads as exit-at-reads
-use Rattle.exits.proofs.lists.over_exit.Reads as over-exit-reads
-use Rattle.frames.proofs.add_mark.Reads as add-mark-reads
 
--- src/opens.rt:35:8
 over-exit-requires : tie.Need-over-exit-requires
 over-exit-requires c κs = search needs
 
--- src/opens.rt:36:29
 exit-at-requires : tie.Need-exit-at-requires
 exit-at-requires c κs = search needs
 
--- src/opens.rt:36:9
 add-mark-requires : tie.Need-add-mark-requires
 add-mark-requires c κs = let s = c .before .before .before .before .before .before .before .before .before in let a = s .args in exit-below (a .weight .now) (a .count .now) (a .outs .now) (a .fees .now) (a .row) (a .left) (a .i) (s .pre .1) (s .pre .0) _ (c .exit-at .ensures)
 
--- src/opens.rt:18:1
 same-length : tie.Need-same-length
 same-length c = search needs
 
--- src/opens.rt:18:1
 returns : tie.Need-returns
 returns c =
     let s = c .before .before .before .before .before .before .before .before .before .before .before .before in
     let a = s .args in
     exit-marked (a .weight .now) (a .count .now) (a .outs .now) (a .fees .now) (a .row) (a .left) (a .i) (s .pre .1) (s .pre .0) _ _ (c .before .before .before .before .before .before .over-exit .ensures) (c .before .before .before .before .before .if1 .taken) (c .before .before .before .exit-at .ensures) (c .before .before .add-mark .ensures)
 
--- src/opens.rt:18:1
 returns-2 : tie.Need-returns-2
 returns-2 c =
     let s = c .before .before .before .before .before .before .before in

@@ -7,9 +7,6 @@ use lib.ListN.{length}
 use Rattle.picks.specs.Opening.{Adds, MeetsOne}
 use Rattle.picks.proofs.opens.mark_outs.Statement.{statement}
 use Rattle.picks.proofs.opens.mark_outs.Tie as tie
-use Rattle.picks.proofs.opens.mark_outs.Reads as reads
-use Rattle.picks.proofs.opens.mark_outs.Lts as lts
-use Rattle.picks.proofs.opens.mark_out.Reads as mark-out-reads
 
 abbrev Inv-loop : tie.InvT-loop
 Inv-loop weight count outs fees len size words row left choice₀ o i₀ choice i =
@@ -18,31 +15,24 @@ Inv-loop weight count outs fees len size words row left choice₀ o i₀ choice 
 abbrev μ-loop : tie.MeasureT-loop
 μ-loop weight count outs fees len size words row left choice₀ o i₀ choice i = len - i
 
--- src/opens.rt:58:5
 loop-holds : tie.Need-loop-holds Inv-loop μ-loop
 loop-holds c = (omega arith, meets-none _ _ _ _ _ _, refl)
 
--- src/opens.rt:59:9
 mark-out-requires : tie.Need-mark-out-requires Inv-loop μ-loop
 mark-out-requires c κs = let l = c .before .before .loop in (omega arith, still-marking (c .before .before .before .before .before .before .before .before .pre) (l .inv .2))
 
--- src/opens.rt:73:9
 add-i : tie.Need-add-i Inv-loop μ-loop
 add-i c = search needs
 
--- src/opens.rt:58:5
 loop-less : tie.Need-loop-less Inv-loop μ-loop
 loop-less c = search needs
 
--- src/opens.rt:58:5
 loop-again : tie.Need-loop-again Inv-loop μ-loop
 loop-again c = let l = c .before .before .before .before .before .loop in let s = c .before .before .mark-out in (omega arith, meets-more _ _ _ _ _ _ (l .i) (l .inv .1) (s .ensures), s .kept .1 .1 .1 .1 .1 .1 .1 .1 .1 .1 .0 ∙ l .inv .2)
 
--- src/opens.rt:41:1
 same-length : tie.Need-same-length Inv-loop μ-loop
 same-length c = search needs
 
--- src/opens.rt:41:1
 returns : tie.Need-returns Inv-loop μ-loop
 returns c = let l = c .before .loop in meets-all _ _ _ _ _ _ (l .i) _ (l .inv .0) (omega arith) (l .inv .1)
 

@@ -1,78 +1,55 @@
-use Prim.Native.Nat.{_+_, _*_}
-use mathlib.Core.Path.{_≡_, refl, sym, ap, _∙_}
+use mathlib.Core.Path.{refl}
 use native.Mathlib.Omega.{arith}
 use Rattle.picks.proofs.Standing.{here-place, look-here, look-below, pick-bottom, pick-inner, record-start, is-nothing, one-at-least}
 use borrow.Author.Needs.{needs}
 use Rattle.picks.proofs.pick.pick.Statement.{statement}
 use Rattle.picks.proofs.pick.pick.Tie as tie
-use Rattle.picks.proofs.pick.pick.Reads as reads
-use Rattle.picks.proofs.pick.pick.Lts as lts
-use Rattle.frames.proofs.entry.Reads as entry-reads
-use Rattle.picks.proofs.looks.look_level.Reads as look-level-reads
-use Rattle.picks.proofs.looks.look_tunnel.Reads as look-tunnel-reads
-use Rattle.picks.proofs.looks.words_for.Reads as words-for-reads
-use Rattle.picks.proofs.pick.nothing.Reads as nothing-reads
 
--- src/pick.rt:52:27
 mul-words-for : tie.Need-mul-words-for
 mul-words-for c = search needs
 
--- src/pick.rt:52:9
 words-for-requires : tie.Need-words-for-requires
 words-for-requires c κs = search needs
 
--- src/pick.rt:53:14
 add-o : tie.Need-add-o
 add-o c = search needs
 
--- src/pick.rt:53:13
 mul-o : tie.Need-mul-o
 mul-o c = let s = c .before .before .before .before .before .before in omega (arith, record-start _ _ _ _ _ _ _ _ _ _ (s .args .k) _ (s .pre .1) (c .words-for .ensures .0))
 
--- src/pick.rt:68:9
 nothing-requires : tie.Need-nothing-requires
 nothing-requires c κs = search needs
 
--- src/pick.rt:54:9
 look-level-requires : tie.Need-look-level-requires
 look-level-requires c κs = let s = c .before .before .before .before .before .before .before in (omega arith, look-here _ _ _ _ _ _ _ _ _ _ (s .args .k) _ _ (s .pre .1) (s .pre .0) (c .before .words-for .ensures .0) refl)
 
--- src/pick.rt:70:9
 look-tunnel-requires : tie.Need-look-tunnel-requires
 look-tunnel-requires c κs = let s = c .before .before .before .before .before .before .before .before in (here-place _ _ _ _ _ _ _ _ _ _ (s .pre .1) .1, look-here _ _ _ _ _ _ _ _ _ _ (s .args .k) _ _ (s .pre .1) (s .pre .0) (c .before .before .words-for .ensures .0) refl)
 
--- src/pick.rt:72:9
 returns : tie.Need-returns
 returns c =
     let s = c .before .before .before .before .before .before .before .before .before .before in
     let e = c .before .before .before .nothing .ensures in
     pick-bottom _ _ _ _ _ _ _ _ _ _ (s .args .k) _ _ (s .pre .1) (s .pre .0) (c .if1 .taken) (c .before .before .before .before .words-for .ensures .0) refl (rw (is-nothing (e .0) (e .1) (e .2) (e .3) (e .4)) at (c .before .before .look-level .ensures)) (c .before .look-tunnel .ensures)
 
--- src/pick.rt:74:32
 add-entry : tie.Need-add-entry
 add-entry c = let s = c .before .before .before .before .before .before .before .before .before .before in omega (arith, record-start _ _ _ _ _ _ _ _ _ _ (s .args .k) _ (s .pre .1) (c .before .before .before .before .words-for .ensures .0), s .good .1 .1 .1 .1 .1 .1 .1 .1 .0)
 
--- src/pick.rt:74:18
 entry-requires : tie.Need-entry-requires
 entry-requires c κs = let s = c .before .before .before .before .before .before .before .before .before .before in omega (arith, record-start _ _ _ _ _ _ _ _ _ _ (s .args .k) _ (s .pre .1) (c .before .before .before .before .words-for .ensures .0))
 
--- src/pick.rt:74:18
 cast-hidden : tie.Need-cast-hidden
 cast-hidden c = search needs
 
--- src/pick.rt:85:14
 add-look-level : tie.Need-add-look-level
 add-look-level c = search needs
 
--- src/pick.rt:85:9
 sub-look-level : tie.Need-sub-look-level
 sub-look-level c = one-at-least _ _ (c .before .if1 .left)
 
--- src/pick.rt:75:5
 look-level-requires-2 : tie.Need-look-level-requires-2
 look-level-requires-2 c κs = let s = c .before .before .before .before .before .before .before .before .before .before .before in (omega arith, look-below _ _ _ _ _ _ _ _ _ _ (s .args .k) _ _ (s .pre .1) (s .pre .0) (c .before .if1 .left) (c .before .before .before .before .before .words-for .ensures .0) refl)
 
--- src/pick.rt:35:1
 returns-2 : tie.Need-returns-2
 returns-2 c =
     let s = c .before .before .before .before .before .before .before .before .before .before .before .before in

@@ -1,14 +1,10 @@
 use native.Mathlib.Omega.{arith}
 use Rattle.picks.proofs.Better.{any-none, any-more, any-all}
 use Prim.Native.Nat.{_-_, _≤_}
-use mathlib.Core.Path.{_≡_, refl}
 use Rattle.picks.specs.Pick.{trial, Better, Any, OverLink}
 use borrow.Author.Needs.{needs}
 use Rattle.picks.proofs.steps.try_links.Statement.{statement}
 use Rattle.picks.proofs.steps.try_links.Tie as tie
-use Rattle.picks.proofs.steps.try_links.Reads as reads
-use Rattle.picks.proofs.steps.try_links.Lts as lts
-use Rattle.picks.proofs.steps.try_link.Reads as try-link-reads
 
 abbrev Inv-loop : tie.InvT-loop
 Inv-loop links c n p weight count exits costs len at f found₀ i₀ found i =
@@ -17,27 +13,21 @@ Inv-loop links c n p weight count exits costs len at f found₀ i₀ found i =
 abbrev μ-loop : tie.MeasureT-loop
 μ-loop links c n p weight count exits costs len at f found₀ i₀ found i = c - i
 
--- src/steps.rt:153:5
 loop-holds : tie.Need-loop-holds Inv-loop μ-loop
 loop-holds c = (omega arith, any-none _)
 
--- src/steps.rt:154:9
 try-link-requires : tie.Need-try-link-requires Inv-loop μ-loop
 try-link-requires c κs = search needs
 
--- src/steps.rt:169:9
 add-i : tie.Need-add-i Inv-loop μ-loop
 add-i c = search needs
 
--- src/steps.rt:153:5
 loop-less : tie.Need-loop-less Inv-loop μ-loop
 loop-less c = search needs
 
--- src/steps.rt:153:5
 loop-again : tie.Need-loop-again Inv-loop μ-loop
 loop-again c = let l = c .before .before .loop in (omega arith, any-more _ (l .i) (l .inv .1) (c .try-link .ensures))
 
--- src/steps.rt:134:1
 returns : tie.Need-returns Inv-loop μ-loop
 returns c = let l = c .before .loop in any-all _ (l .i) _ (l .inv .0) (omega arith) (l .inv .1)
 

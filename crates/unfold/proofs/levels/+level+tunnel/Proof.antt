@@ -1,13 +1,13 @@
 -- `level` and `tunnel` meet their contracts: the steps left fall with each call, twice counted, since `level` calls `tunnel` where it stands.
 -- Assumes nothing.
-use Prim.Native.Nat.{ℕ, _+_, _-_, _*_, _<_}
-use mathlib.Core.Path.{_≡_, refl, sym, ap, _∙_}
+use Prim.Native.Nat.{ℕ, _+_, _*_, _<_}
+use mathlib.Core.Path.{refl, _∙_}
 use native.Mathlib.Numerals.{add-one}
 use native.Mathlib.Omega.{arith}
 use borrow.Author.Needs.{needs}
 use borrow.Fn.Kinds.{In}
 use borrow.Fn.PlainCycle.{Measures, is, falls, and}
-use Rattle.paper.specs.Net.{conv, wrap, unwrap}
+use Rattle.paper.specs.Net.{wrap, unwrap}
 use Rattle.unfold.specs.Contract.{Inside}
 use Rattle.unfold.proofs.Writes.{taken-as, taken-conv}
 use Rattle.unfold.proofs.Contract.{inside-none, inside-asks, inside-conv, inside-tunnel, level-closes, level-ends, picked-falls, tunnel-opens, tunnel-few, tunnel-left, tunnel-calls, tunnel-done}
@@ -17,10 +17,10 @@ use Rattle.unfold.proofs.levels.+level+tunnel.Lts-level as level-lts
 use Rattle.unfold.proofs.levels.tunnel.Reads as tunnel
 use Rattle.unfold.proofs.levels.tunnel.Kinds as tunnel-kinds
 use Rattle.unfold.proofs.levels.+level+tunnel.Lts-tunnel as tunnel-lts
-use Rattle.picks.proofs.opens.open.Reads as open-reads
-use Rattle.picks.proofs.pick.pick.Reads as pick-reads
-use Rattle.unfold.proofs.levels.index.Reads as index-reads
-use Rattle.unfold.proofs.levels.put.Reads as put-reads
+use Rattle.picks.proofs.opens.open.Reads as opens
+use Rattle.picks.proofs.pick.pick.Reads as pick
+use Rattle.unfold.proofs.levels.index.Reads as index
+use Rattle.unfold.proofs.levels.put.Reads as put
 use Rattle.unfold.proofs.levels.+level+tunnel.{statement}
 use Rattle.unfold.proofs.levels.+level+tunnel.Tie.{close}
 
@@ -44,10 +44,10 @@ tunnel-below t = and 6 tunnel-kinds.ps (falls 6 tunnel-kinds.ps _<_ μ-tunnel t)
 
 -- what the functions that each calls claim
 abbrev level-claims : ℕ → level-lts.Claims
-level-claims t = (pick-reads.Asked, pick-reads.Learnt, tunnel-below t, tunnel.Post, index-reads.Asked, index-reads.Learnt, put-reads.Asked, put-reads.Learnt)
+level-claims t = (pick.Asked, pick.Learnt, tunnel-below t, tunnel.Post, index.Asked, index.Learnt, put.Asked, put.Learnt)
 
 abbrev tunnel-claims : ℕ → tunnel-lts.Claims
-tunnel-claims t = (index-reads.Asked, index-reads.Learnt, put-reads.Asked, put-reads.Learnt, open-reads.Asked, open-reads.Learnt, level-below t, level.Post)
+tunnel-claims t = (index.Asked, index.Learnt, put.Asked, put.Learnt, opens.Asked, opens.Learnt, level-below t, level.Post)
 
 abbrev level-Inv-loop : level-lts.InvT-loop
 level-Inv-loop links c funs d n p weight count choice₀ steps₀ end total k here₀ choice steps here =

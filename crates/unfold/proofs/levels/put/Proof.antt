@@ -5,90 +5,67 @@ use Rattle.unfold.proofs.Writes.{key-laid}
 use borrow.Author.Needs.{needs}
 use Rattle.unfold.proofs.levels.put.Statement.{statement}
 use Rattle.unfold.proofs.levels.put.Tie as tie
-use Rattle.unfold.proofs.levels.put.Reads as reads
-use Rattle.unfold.proofs.levels.put.Lts as lts
 
--- src/levels.rt:22:23
 array-read-steps : tie.Need-array-read-steps
 array-read-steps c = search needs
 
--- src/levels.rt:22:11
 mul-steps : tie.Need-mul-steps
 mul-steps c = search needs
 
--- src/levels.rt:22:5
 mul-steps-2 : tie.Need-mul-steps-2
 mul-steps-2 c = search needs
 
--- src/levels.rt:22:5
 slice-write-steps : tie.Need-slice-write-steps
 slice-write-steps c = search needs
 
--- src/levels.rt:23:27
 array-read-steps-2 : tie.Need-array-read-steps-2
 array-read-steps-2 c = search needs
 
--- src/levels.rt:23:11
 mul-steps-3 : tie.Need-mul-steps-3
 mul-steps-3 c = search needs
 
--- src/levels.rt:23:11
 add-steps : tie.Need-add-steps
 add-steps c = search needs
 
--- src/levels.rt:23:5
 mul-steps-4 : tie.Need-mul-steps-4
 mul-steps-4 c = search needs
 
--- src/levels.rt:23:5
 slice-write-steps-2 : tie.Need-slice-write-steps-2
 slice-write-steps-2 c = simp length-set (omega arith)
 
--- src/levels.rt:24:27
 array-read-steps-3 : tie.Need-array-read-steps-3
 array-read-steps-3 c = search needs
 
--- src/levels.rt:24:11
 mul-steps-5 : tie.Need-mul-steps-5
 mul-steps-5 c = search needs
 
--- src/levels.rt:24:11
 add-steps-2 : tie.Need-add-steps-2
 add-steps-2 c = search needs
 
--- src/levels.rt:24:5
 mul-steps-6 : tie.Need-mul-steps-6
 mul-steps-6 c = search needs
 
--- src/levels.rt:24:5
 slice-write-steps-3 : tie.Need-slice-write-steps-3
 slice-write-steps-3 c = simp length-set (omega arith)
 
--- src/levels.rt:25:27
 array-read-steps-4 : tie.Need-array-read-steps-4
 array-read-steps-4 c = search needs
 
--- src/levels.rt:25:11
 mul-steps-7 : tie.Need-mul-steps-7
 mul-steps-7 c = search needs
 
--- src/levels.rt:25:11
 add-steps-3 : tie.Need-add-steps-3
 add-steps-3 c = search needs
 
--- src/levels.rt:25:5
 mul-steps-8 : tie.Need-mul-steps-8
 mul-steps-8 c = search needs
 
--- src/levels.rt:25:5
 slice-write-steps-4 : tie.Need-slice-write-steps-4
 slice-write-steps-4 c = simp length-set (omega arith)
 
--- src/levels.rt:18:1
 same-length : tie.Need-same-length
 same-length c = search needs
 
--- src/levels.rt:18:1
 returns : tie.Need-returns
 returns c = key-laid (c .args .steps .now) (4 * c .args .done) (c .args .t3) (c .good .1 .1 .0 .1 .0 .1)
 
