@@ -56,19 +56,19 @@ module _ (hop : Key → ℕ → Option (ℕ × ℕ)) (N P : ℕ) (t : ℕ → �
     come (base e m i) = i
     come (over l c k h p q m i) = i
 
-    marks : {f : Frame} {fs : List Frame} {v x w n : ℕ} → Nest hop N P t D b f fs v x w n → Marks hop N P t D b f (hides f fs)
+    pub marks : {f : Frame} {fs : List Frame} {v x w n : ℕ} → Nest hop N P t D b f fs v x w n → Marks hop N P t D b f (hides f fs)
     unfolding hides
     marks (base e m i) = m
     marks (over l c k h p q m i) = m
 
     module _ (valid : Valid hop N P) (exact : Exact hop N P t) where
-      begun-wrap : {r q w n o z u m : ℕ} {H : List ℕ} (l c : ℕ) → Begun hop N P t D b r q H w n → hop (key l wrap q z) r ≡ some (o, c) → w ≡ c + u → n ≡ suc m → Begun hop N P t D b o z (q ∷ H) u m
+      pub begun-wrap : {r q w n o z u m : ℕ} {H : List ℕ} (l c : ℕ) → Begun hop N P t D b r q H w n → hop (key l wrap q z) r ≡ some (o, c) → w ≡ c + u → n ≡ suc m → Begun hop N P t D b o z (q ∷ H) u m
       begun-wrap l c f h p q =
           let i = valid .inside _ _ _ _ _ _ _ h in
           record { node = i .0; protocol = i .1; light = omega (arith, f .light); short = omega (arith, f .short); least = least-step hop D b (f .least) (by-wrap l c h) p q }
 
       -- nothing costs less than what is left, where the inmost level began and where it stands
-      inmost : {f : Frame} {fs : List Frame} {v x w n : ℕ} → Nest hop N P t D b f fs v x w n → Begun hop N P t D b (f .node) (f .protocol) (hides f fs) (f .weighs) (f .counts)
+      pub inmost : {f : Frame} {fs : List Frame} {v x w n : ℕ} → Nest hop N P t D b f fs v x w n → Begun hop N P t D b (f .node) (f .protocol) (hides f fs) (f .weighs) (f .counts)
       unfolding hides
       inmost (base e m i) = e
       inmost (over l c k h p q m i) = begun-wrap l c (begun-way hop N P t valid exact D b (inmost k) (come k)) h p q

@@ -172,6 +172,20 @@ module _ (hop : Key → ℕ → Option (ℕ × ℕ)) (N P : ℕ) (t : ℕ → �
         least = least-along hop D b (i .least) (way .by) (way .weighs) (way .counts);
       }
 
+  -- a test that is passed at any place: some rest costs what it says
+  pub ok-rest : {f : Frame} {H : List ℕ} {r q w n : ℕ} → Marks hop N P t D b f H → r < N → q < P → (k : Ok hop N P t f r q w n) → k .s′ ≤ 4096 → Goes hop D b r q H w n
+  unfolding path price
+  ok-rest m hr hq k short =
+      let h = m .says (k .u) (k .y) (k .node) (k .protocol) .0 (k .marked) in
+      let e : k .a ≡ h .a = cc (k .from-start, h .is) in
+      let g : k .s ≡ h .s = cc (k .from-start, h .is) in
+      let d = table-level hr hq (k .node) (k .protocol) (k .from-here) short in
+      record {
+        by = rest (d .0) (h .exit);
+        weighs = omega (arith, d .1, k .weighs, h .weighs);
+        counts = omega (arith, d .2, k .counts, h .counts, length-append (keys hop (d .0)) (trail hop D b (h .exit)));
+      }
+
   -- the test at a place that the level has come to
   module _ {f : Frame} {H : List ℕ} (i : Begun hop N P t D b (f .node) (f .protocol) H (f .weighs) (f .counts)) (m : Marks hop N P t D b f H) {r q w n : ℕ}
       (way : Way hop N P t (f .node) (f .protocol) (f .weighs) (f .counts) r q w n) where
@@ -179,18 +193,10 @@ module _ (hop : Key → ℕ → Option (ℕ × ℕ)) (N P : ℕ) (t : ℕ → �
     here = begun-way i way
 
     pub ok-goes : Ok hop N P t f r q w n → Goes hop D b r q H w n
-    unfolding path price
     ok-goes k =
         let h = m .says (k .u) (k .y) (k .node) (k .protocol) .0 (k .marked) in
-        let e : k .a ≡ h .a = cc (k .from-start, h .is) in
         let g : k .s ≡ h .s = cc (k .from-start, h .is) in
-        let p : k .s′ + length (trail hop D b (h .exit)) ≡ n = omega (arith, k .counts, h .counts) in
-        let d = table-level (here .node) (here .protocol) (k .node) (k .protocol) (k .from-here) (omega (arith, here .short)) in
-        record {
-          by = rest (d .0) (h .exit);
-          weighs = omega (arith, d .1, k .weighs, h .weighs);
-          counts = omega (arith, d .2, length-append (keys hop (d .0)) (trail hop D b (h .exit)));
-        }
+        ok-rest m (here .node) (here .protocol) k (omega (arith, here .short, k .counts, h .counts))
 
     pub goes-ok : Goes hop D b r q H w n → Ok hop N P t f r q w n
     unfolding path price

@@ -110,6 +110,7 @@ module _ (n p nl : ℕ) (ls : List ℕ) (nf : ℕ) (fs : List ℕ) (valid : Vali
     pub has-y : yOf fs j ≡ y
     pub has-to : to ls i ≡ u
     pub has-weight : w ≡ fee fs j + toll ls i
+    pub has-number : number ls i ≡ l
 
   pub found : (l : ℕ) (c : Kind) (x y v u w : ℕ) → h (key l c x y) v ≡ some (u, w) → Found l c x y v u w
   unfolding hopOf netOf linkRows funRows linkAt funAt
@@ -133,6 +134,7 @@ module _ (n p nl : ℕ) (ls : List ℕ) (nf : ℕ) (fs : List ℕ) (valid : Vali
             has-y = cc (q .is);
             has-to = cc (r .is);
             has-weight = omega (arith, b .sum);
+            has-number = cc (r .is);
           }
 
   -- the code of a function's kind

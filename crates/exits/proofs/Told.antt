@@ -1,0 +1,66 @@
+-- What the tables tell: as a cost it is far, or it is the cost of the value that the two entries stand for. Assumes nothing.
+use Prim.Native.Nat.{ℕ, suc, _+_, _*_, _<_, _≤_}
+use mathlib.Core.Path.{_≡_, refl}
+use mathlib.Core.Bool.{Bool, true, false, cond, _&&_}
+use mathlib.Core.List.{List}
+use native.Mathlib.Omega.{arith}
+use native.Mathlib.Nat.{mul-le-mul-right, mul-le-mul, suc-mul}
+use lib.Dec.{leb}
+use lib.ListN.{length, getD}
+use borrow.Author.Tests.{le-leb, lt-leb, leb-true}
+use Rattle.paper.specs.Limits.{heaviest, longest, over-mark}
+use Rattle.laws.specs.Value.{within, over, never}
+use Rattle.exits.specs.Cost.{cost, far, told, value}
+use Rattle.exits.specs.Lists.{placeIn, Ranged}
+
+pub place-lt : (n p v x : ℕ) → v < n → x < p → v * p + x < n * p
+place-lt n p v x hv hx = omega (arith, mul-le-mul-right {m = suc v} {n = n} p hv, suc-mul v p)
+
+pub row-le : (size q : ℕ) → q < size → q * size + size ≤ size * size
+row-le size q h = omega (arith, mul-le-mul-right {m = suc q} {n = size} size h, suc-mul q size)
+
+pub square : (size : ℕ) → size ≤ 1024 → size * size ≤ 1048576
+square size h = mul-le-mul h h
+
+pub told-heavy : (w s : ℕ) → heaviest < w → far ≡ told w s
+unfolding told
+told-heavy w s h = rw (lt-leb w heaviest h)
+
+pub told-long : (w s : ℕ) → w ≤ heaviest → longest < s → far ≡ told w s
+unfolding told
+told-long w s h k = rw (le-leb w heaviest h, lt-leb s longest k)
+
+pub told-light : (w s : ℕ) → w ≤ heaviest → s ≤ longest → cost w s ≡ told w s
+unfolding told
+told-light w s h k = rw (le-leb w heaviest h, le-leb s longest k)
+
+-- entries that stand for a route of at most 4,096 steps tell its cost, and only those tell a cost
+pub value-told : (w s a k : ℕ) → value w s ≡ within a k → k ≤ longest → told w s ≡ cost a k
+unfolding value told
+value-told w s a k e h = go (leb w heaviest) (leb w over-mark) e
+  where
+    go : (b c : Bool) → cond b (within w s) (cond c over never) ≡ within a k → cond (b && leb s longest) (cost w s) far ≡ cost a k
+    go true c f = let i : w ≡ a = cc in let j : s ≡ k = cc in rw (i, j, le-leb k longest h)
+    go false true f = absurd (let z : _≡_ {A = ℕ} 0 1 = cc in omega arith)
+    go false false f = absurd (let z : _≡_ {A = ℕ} 0 1 = cc in omega arith)
+
+-- w and s spell a cost
+pub record Near (w s : ℕ) : Type 0 where
+  pub light : w ≤ heaviest
+  pub short : s ≤ longest
+  pub is : value w s ≡ within w s
+  pub costs : told w s ≡ cost w s
+
+pub told-near : (w s : ℕ) → told w s < far → Near w s
+unfolding value told
+told-near w s = go (leb w heaviest) (leb s longest) (leb-true w heaviest) (leb-true s longest) refl refl
+  where
+    go : (b c : Bool) → (b ≡ true → w ≤ heaviest) → (c ≡ true → s ≤ longest) → leb w heaviest ≡ b → leb s longest ≡ c → cond (b && c) (cost w s) far < far → Near w s
+    go true true f g i j h = record { light = f refl; short = g refl; is = rw i; costs = rw (i, j) }
+    go true false f g i j h = absurd (omega arith)
+    go false c f g i j h = absurd (omega arith)
+
+-- an exit's entry in a row
+module _ (W C X : List ℕ) (len size row i : ℕ) (r : Ranged size X len) (h : i < len) (hw : row + size ≤ length W) (hc : row + size ≤ length C) where
+  pub entry-in : (row + placeIn X i < length W) × (row + placeIn X i < length C)
+  entry-in = (omega (arith, r .place-below i h), omega (arith, r .place-below i h))

@@ -1,0 +1,3 @@
+pub mod Cost
+pub mod Lists
+pub mod Exits

@@ -1,0 +1,4 @@
+pub mod Stores
+pub mod Marks
+pub mod Keeps
+pub mod Heads

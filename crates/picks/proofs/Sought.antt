@@ -1,0 +1,47 @@
+-- What looking for a step hands on. Assumes nothing.
+use Prim.Native.Nat.{ℕ, _*_, _<_, _≤_}
+use mathlib.Core.Path.{_≡_}
+use mathlib.Core.List.{List}
+use native.Mathlib.Omega.{arith}
+use lib.ListN.{length, getD}
+use Rattle.records.specs.Columns.{node, yOf}
+use Rattle.frames.specs.Frames.{wordsFor}
+use Rattle.exits.specs.Lists.{Lists, Gathered, Ranged}
+use Rattle.exits.specs.Exits.{Leaves, Unwraps, Crossing, Reading}
+use Rattle.exits.proofs.Told.{place-lt}
+use Rattle.exits.proofs.Places.{level-ranged}
+use Rattle.picks.specs.Pick.{Trial, Better, Any, ByFun, Looking, Scanning, ByLevel, Outward}
+
+module _ {n p c : ℕ} {ls : List ℕ} {d : ℕ} {fs W C L : List ℕ} {o m : ℕ} (k : Looking n p c ls d fs W C L o m) where
+  -- the words' number, as it was reckoned
+  pub looked-reading : {X : List ℕ} (words : ℕ) → words ≡ wordsFor (n * p) → words ≤ 64 → 1024 ≤ length E → 1024 ≤ length A → Reading words (n * p) W C L o X
+  looked-reading words e h hE hA =
+      record { square = k .square; few-words = h; record-room = rw e (k .record-room); begins = k .begins; places-room = omega arith; costs-room = omega arith }
+
+  pub looked-ranged : {X : List ℕ} {len words : ℕ} → ((i : ℕ) → getD L i 0 < 65536) → words ≤ 64 → 1024 ≤ length E → 1024 ≤ length A → len ≤ 16 * words
+      → Lists (Leaves words (n * p) W C L o) X len → Ranged (n * p) X len
+  looked-ranged small hw hE hA hl l = level-ranged small (omega arith) (omega arith) l
+
+  pub looked-scanning : {X : List ℕ} {len : ℕ} → Ranged (n * p) X len → Scanning n p c ls d fs W C X len m
+  looked-scanning r = record { valid = k .valid; square = k .square; ranged = r; some-left = k .some-left; few-left = k .few-left }
+
+  pub looked-crossing : {X : List ℕ} {len : ℕ} (x : ℕ) → x < p → Ranged (n * p) X len → Crossing n p c ls W C X len x
+  looked-crossing x h r = record { square = k .square; few = k .valid .few-links; link-room = k .valid .link-room; link-to = k .valid .link-to; protocol = h; ranged = r }
+
+  pub tunnel-ranged : {X Y : List ℕ} {len x len′ : ℕ} → 1024 ≤ length O → 1024 ≤ length F → Gathered (Unwraps n p c ls W C X len x fs) d Y len′ → Ranged (n * p) Y len′
+  tunnel-ranged hO hF g = record {
+    places = omega (arith, g .few, k .valid .few-funs);
+    costs = omega (arith, g .few, k .valid .few-funs);
+    place-below = λ i h.
+        let s = g .lists .each i h in
+        rw (s .is .place-is) (place-lt n p (node fs (s .at)) (yOf fs (s .at)) (k .valid .fun-node (s .at) (s .below)) (k .valid .fun-y (s .at) (s .below)));
+    cost-below = λ i h. omega (arith, g .lists .each i h .is .near);
+  }
+
+pub by-level : {n p c : ℕ} {ls : List ℕ} {d : ℕ} {fs W C L : List ℕ} {o v x w m k h : ℕ} {X : List ℕ} {len words : ℕ} {b r : Trial} → words ≡ wordsFor (n * p)
+    → Lists (Leaves words (n * p) W C L o) X len → Better (Any (ByFun n p c ls fs W C X len v x w m k h) d) b r → ByLevel n p c ls d fs W C L o v x w m k h b r
+by-level {E = E} {A = A} {len = len} e l q = record { E = E; A = A; len = len; lists = rw e at l; better = q }
+
+pub outward : {n p c : ℕ} {ls : List ℕ} {d : ℕ} {fs W C L : List ℕ} {o m x : ℕ} {X Y : List ℕ} {len len′ words : ℕ} → Looking n p c ls d fs W C L o m → words ≡ wordsFor (n * p) → 1024 ≤ length O → 1024 ≤ length F
+    → Lists (Leaves words (n * p) W C L o) X len → Gathered (Unwraps n p c ls W C X len x fs) d Y len′ → Outward n p c ls d fs W C L o x Y len′
+outward {E = E} {A = A} {len = len} k e hO hF l g = record { E = E; A = A; len = len; lists = rw e at l; gathered = g; ranged = tunnel-ranged k hO hF g }

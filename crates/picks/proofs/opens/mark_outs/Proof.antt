@@ -1,0 +1,51 @@
+use native.Mathlib.Omega.{arith}
+use Rattle.picks.proofs.Adding.{meets-none, meets-more, meets-all, still-marking}
+use borrow.Author.Needs.{needs}
+use Prim.Native.Nat.{_-_, _≤_}
+use mathlib.Core.Path.{_≡_, refl, _∙_}
+use lib.ListN.{length}
+use Rattle.picks.specs.Opening.{Adds, MeetsOne}
+use Rattle.picks.proofs.opens.mark_outs.Statement.{statement}
+use Rattle.picks.proofs.opens.mark_outs.Tie as tie
+
+abbrev Inv-loop : tie.InvT-loop
+Inv-loop weight count outs fees len size words row left choice₀ o i₀ choice i =
+    (i ≤ len) × Adds words o (MeetsOne weight count outs row left i) choice₀ choice × (length choice ≡ length choice₀)
+
+abbrev μ-loop : tie.MeasureT-loop
+μ-loop weight count outs fees len size words row left choice₀ o i₀ choice i = len - i
+
+loop-holds : tie.Need-loop-holds Inv-loop μ-loop
+loop-holds c = (omega arith, meets-none _ _ _ _ _ _, refl)
+
+mark-out-requires : tie.Need-mark-out-requires Inv-loop μ-loop
+mark-out-requires c κs = let l = c .before .before .loop in (omega arith, still-marking (c .before .before .before .before .before .before .before .before .pre) (l .inv .2))
+
+add-i : tie.Need-add-i Inv-loop μ-loop
+add-i c = search needs
+
+loop-less : tie.Need-loop-less Inv-loop μ-loop
+loop-less c = search needs
+
+loop-again : tie.Need-loop-again Inv-loop μ-loop
+loop-again c = let l = c .before .before .before .before .before .loop in let s = c .before .before .mark-out in (omega arith, meets-more _ _ _ _ _ _ (l .i) (l .inv .1) (s .ensures), s .kept .1 .1 .1 .1 .1 .1 .1 .1 .1 .1 .0 ∙ l .inv .2)
+
+same-length : tie.Need-same-length Inv-loop μ-loop
+same-length c = search needs
+
+returns : tie.Need-returns Inv-loop μ-loop
+returns c = let l = c .before .loop in meets-all _ _ _ _ _ _ (l .i) _ (l .inv .0) (omega arith) (l .inv .1)
+
+pub mark-outs-spec : {M : Type 1} → statement M
+mark-outs-spec =
+    tie.close
+    (tie.spec
+    Inv-loop
+    μ-loop
+    loop-holds
+    mark-out-requires
+    add-i
+    loop-less
+    loop-again
+    same-length
+    returns)

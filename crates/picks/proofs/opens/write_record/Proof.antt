@@ -1,0 +1,62 @@
+use mathlib.Core.Path.{refl}
+use Rattle.picks.proofs.Opened.{write-marking, written}
+use borrow.Author.Needs.{needs}
+use Rattle.picks.proofs.opens.write_record.Statement.{statement}
+use Rattle.picks.proofs.opens.write_record.Tie as tie
+
+mul-words-for : tie.Need-mul-words-for
+mul-words-for c = search needs
+
+words-for-requires : tie.Need-words-for-requires
+words-for-requires c κs = search needs
+
+number-requires : tie.Need-number-requires
+number-requires c κs = search needs
+
+cast-begin : tie.Need-cast-begin
+cast-begin c = search needs
+
+cast-begin-2 : tie.Need-cast-begin-2
+cast-begin-2 c = search needs
+
+begin-requires : tie.Need-begin-requires
+begin-requires c κs = search needs
+
+mul-mark-outs : tie.Need-mul-mark-outs
+mul-mark-outs c = search needs
+
+mul-row-of : tie.Need-mul-row-of
+mul-row-of c = search needs
+
+row-of-requires : tie.Need-row-of-requires
+row-of-requires c κs = search needs
+
+cost-of-requires : tie.Need-cost-of-requires
+cost-of-requires c κs = search needs
+
+mark-outs-requires : tie.Need-mark-outs-requires
+mark-outs-requires c κs = let s = c .before .before .before .before .before .before .before .before .before .before .before .before .before .before in write-marking (s .pre) _ _ _ (c .before .before .before .before .before .before .before .before .words-for .ensures .0) (c .before .before .before .before .before .before .before .number .ensures .0) (c .before .before .row-of .ensures .0) (c .before .before .row-of .ensures .1) (c .before .before .before .before .before .begin .kept .0)
+
+same-length : tie.Need-same-length
+same-length c = search needs
+
+returns : tie.Need-returns
+returns c = written (c .before .before .before .before .before .before .before .before .before .before .before .before .before .before .before .before .before .pre) _ _ _ _ _ _ _ (c .before .before .before .before .before .before .before .before .before .before .before .words-for .ensures .0) (c .before .before .before .before .before .before .before .before .before .before .number .ensures .0) refl (c .before .before .before .before .before .row-of .ensures .0) (c .before .before .before .before .cost-of .ensures .0) (c .before .before .before .before .before .before .before .before .begin .ensures) (c .before .before .mark-outs .ensures)
+
+pub write-record-spec : {M : Type 1} → statement M
+write-record-spec =
+    tie.close
+    (tie.spec
+    mul-words-for
+    words-for-requires
+    number-requires
+    cast-begin
+    cast-begin-2
+    begin-requires
+    mul-mark-outs
+    mul-row-of
+    row-of-requires
+    cost-of-requires
+    mark-outs-requires
+    same-length
+    returns)

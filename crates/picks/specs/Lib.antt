@@ -1,0 +1,3 @@
+pub mod Pick
+pub mod Contract
+pub mod Opening

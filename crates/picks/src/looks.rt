@@ -1,0 +1,175 @@
+// Looking for a step among the exits of one record: a step in its level, or a wrap that opens a tunnel from it.
+ghost use mathlib.Core.Path.{_≡_};
+ghost use Prim.Native.Nat.{_*_, _<_, _≤_};
+ghost use lib.ListN.{length};
+ghost use Rattle.frames.specs.Frames.{wordsFor};
+ghost use Rattle.picks.specs.Pick.{trial, Looking, ByLevel, Outward, ByTunnel};
+use crate::funs::try_funs;
+use crate::steps::Spot;
+use crate::steps::Step;
+use exits::levels::list_level;
+use exits::tunnels::list_tunnel;
+
+// The words that hold a bit for each place.
+pub fn words_for(size: usize) -> usize
+    requires { ⌜ size ≤ 1024 ⌝ }
+    ensures { λ r. ⌜ (r ≡ wordsFor size) × (r ≤ 64) ⌝ }
+{
+    (size + 15) / 16
+}
+
+// The better of `best` and the steps of a kind that lead on in the level whose record begins at entry o.
+pub fn look_level(
+    links: &[u32],
+    c: usize,
+    funs: &[u32],
+    d: usize,
+    n: usize,
+    p: usize,
+    weight: &[u32],
+    count: &[u16],
+    choice: &[u16],
+    o: usize,
+    at: Spot,
+    kind: usize,
+    hidden: usize,
+    best: Step,
+) -> Step
+    requires { ⌜ (kind < 3) × Looking n p c (now links) d (now funs) (now weight) (now count) (now choice) o (at .left) ⌝ }
+    ensures { λ r. ⌜ ByLevel n p c (now (links .entry)) d (now (funs .entry)) (now (weight .entry)) (now (count .entry)) (now (choice .entry)) o (at .node) (at .protocol) (at .weight) (at .left) kind hidden (trial (best .key) (best .to .node) (best .to .protocol) (best .to .weight) (best .to .left)) (trial (r .key) (r .to .node) (r .to .protocol) (r .to .weight) (r .to .left)) ⌝ }
+{
+    let mut exits = [0u16; 1024];
+    let mut costs = [0u64; 1024];
+    let len = list_level(
+        choice,
+        o,
+        words_for(n * p),
+        weight,
+        count,
+        n * p,
+        &mut exits,
+        &mut costs,
+    );
+    try_funs(
+        links,
+        c,
+        funs,
+        d,
+        n,
+        p,
+        weight,
+        count,
+        &exits,
+        &costs,
+        len,
+        at,
+        kind,
+        hidden,
+        best,
+    )
+}
+
+// The exits of a tunnel over x, opened from the level whose record begins at entry o.
+pub fn list_outward(
+    links: &[u32],
+    c: usize,
+    funs: &[u32],
+    d: usize,
+    n: usize,
+    p: usize,
+    weight: &[u32],
+    count: &[u16],
+    choice: &[u16],
+    o: usize,
+    left: u16,
+    x: usize,
+    outs: &mut [u16],
+    fees: &mut [u64],
+) -> usize
+    requires { ⌜ (x < p) × (1024 ≤ length (now outs)) × (1024 ≤ length (now fees)) × Looking n p c (now links) d (now funs) (now weight) (now count) (now choice) o left ⌝ }
+    ensures { λ r. ⌜ Outward n p c (now (links .entry)) d (now (funs .entry)) (now (weight .entry)) (now (count .entry)) (now (choice .entry)) o x (now (outs .exit)) (now (fees .exit)) r ⌝ }
+{
+    let mut exits = [0u16; 1024];
+    let mut costs = [0u64; 1024];
+    let len = list_level(
+        choice,
+        o,
+        words_for(n * p),
+        weight,
+        count,
+        n * p,
+        &mut exits,
+        &mut costs,
+    );
+    list_tunnel(
+        links,
+        c,
+        funs,
+        d,
+        n,
+        p,
+        weight,
+        count,
+        &exits,
+        &costs,
+        len,
+        x,
+        outs,
+        fees,
+    )
+}
+
+// The better of `best` and the wraps that open a tunnel from the level whose record begins at entry o.
+pub fn look_tunnel(
+    links: &[u32],
+    c: usize,
+    funs: &[u32],
+    d: usize,
+    n: usize,
+    p: usize,
+    weight: &[u32],
+    count: &[u16],
+    choice: &[u16],
+    o: usize,
+    at: Spot,
+    best: Step,
+) -> Step
+    requires { ⌜ (at .protocol < p) × Looking n p c (now links) d (now funs) (now weight) (now count) (now choice) o (at .left) ⌝ }
+    ensures { λ r. ⌜ ByTunnel n p c (now (links .entry)) d (now (funs .entry)) (now (weight .entry)) (now (count .entry)) (now (choice .entry)) o (at .node) (at .protocol) (at .weight) (at .left) (trial (best .key) (best .to .node) (best .to .protocol) (best .to .weight) (best .to .left)) (trial (r .key) (r .to .node) (r .to .protocol) (r .to .weight) (r .to .left)) ⌝ }
+{
+    let mut outs = [0u16; 1024];
+    let mut fees = [0u64; 1024];
+    let len = list_outward(
+        links,
+        c,
+        funs,
+        d,
+        n,
+        p,
+        weight,
+        count,
+        choice,
+        o,
+        at.left,
+        at.protocol,
+        &mut outs,
+        &mut fees,
+    );
+    try_funs(
+        links,
+        c,
+        funs,
+        d,
+        n,
+        p,
+        weight,
+        count,
+        &outs,
+        &fees,
+        len,
+        at,
+        1,
+        0,
+        best,
+    )
+}
