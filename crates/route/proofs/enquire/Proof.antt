@@ -1,0 +1,51 @@
+use borrow.Author.Needs.{needs}
+use borrow.Author.Tests.{not-false}
+use Rattle.enquiry.proofs.Answering.{in-ranges}
+use Rattle.route.proofs.Enquiries.{nothing, in-room, still-ready}
+use Rattle.route.proofs.enquire.Statement.{statement}
+use Rattle.route.proofs.enquire.Tie as tie
+
+in-range-requires : tie.Need-in-range-requires
+in-range-requires c κs = search needs
+
+refusal-requires : tie.Need-refusal-requires
+refusal-requires c κs = search needs
+
+returns : tie.Need-returns
+returns c = (nothing _ _ _ _ _ _ _ _ (c .refusal .ensures), c .before .before .before .before .before .before .before .before .before .before .pre)
+
+refusal-requires-2 : tie.Need-refusal-requires-2
+refusal-requires-2 c κs = search needs
+
+returns-2 : tie.Need-returns-2
+returns-2 c = (nothing _ _ _ _ _ _ _ _ (c .refusal2 .ensures), c .before .before .before .before .before .before .before .before .before .before .before .pre)
+
+travel-requires : tie.Need-travel-requires
+travel-requires c κs = (c .before .before .before .before .before .before .before .before .before .before .before .before .before .pre (not-false _ (c .before .before .before .if2 .left)), in-ranges _ _ _ _ _ _ _ (c .before .before .before .before .before .in-range .ensures) (not-false _ (c .before .before .before .before .if1 .left)))
+
+same-length : tie.Need-same-length
+same-length c = search needs
+
+same-length-2 : tie.Need-same-length-2
+same-length-2 c = search needs
+
+same-length-3 : tie.Need-same-length-3
+same-length-3 c = search needs
+
+returns-3 : tie.Need-returns-3
+returns-3 c = (in-room (c .before .before .before .before .before .before .travel .ensures .0), λ t. still-ready _ _ _ _ _ _ _ _ _ _ (c .before .before .before .before .before .before .travel .ensures .1) (c .before .before .before .before .before .before .before .before .before .before .before .before .before .before .before .before .before .before .before .before .pre t))
+
+pub enquire-spec : {M : Type 1} → statement M
+enquire-spec =
+    tie.close
+    (tie.spec
+    in-range-requires
+    refusal-requires
+    returns
+    refusal-requires-2
+    returns-2
+    travel-requires
+    same-length
+    same-length-2
+    same-length-3
+    returns-3)
