@@ -1,7 +1,30 @@
-# `make test` passes the tests.
-.PHONY: test clean
+# Two commands do everything: `make route` runs the route program on a sample network, `make test` passes the tests.
+.PHONY: route test compare clean
+
+# The sample: document 01's network and enquiries.
+route:
+	rt check route
+	cd crates/route/data && ../../../target/bin/route < ../stdin
+
+# The C side comes first, over the library as it is proved; rt ci then proves everything from nothing and ends with its own verdict.
 test:
+	rt staticlib mpakirovu
+	rt check route normalise
+	tools/check-header
+	examples/run
+	second/build
+	target/second/driver --self
+	target/second/driver 3000 1 target/bin/route target/bin/normalise
 	rt ci
+
+# Any number of cases by hand: make compare CASES=100000 SEED=7
+CASES = 10000
+SEED = 1
+compare:
+	rt staticlib mpakirovu
+	rt check route normalise
+	second/build
+	target/second/driver $(CASES) $(SEED) target/bin/route target/bin/normalise
 
 clean:
 	rm -rf target

@@ -102,9 +102,10 @@ extern "C" {
 #define MPAKIROVU_HEAVIEST 4000000000u    /* weight of a route that is handed out */
 #define MPAKIROVU_LONGEST 4096u           /* steps of a route that is handed out */
 
-/* The stack that a call may need, in bytes: a thread that calls the library has to have it free.
-   It is no part of what is proved. */
-#define MPAKIROVU_STACK_BYTES 1048576u
+/* The stack that a call may need, in bytes: a thread that calls the library has to have it free. Each
+   tunnel that is open at once takes about 11 KB, and a route with 2,046 of them overflowed 8 MiB. It
+   is no part of what is proved. */
+#define MPAKIROVU_STACK_BYTES 33554432u
 
 /* 5. SIZES OF ROOMS */
 

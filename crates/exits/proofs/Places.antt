@@ -5,12 +5,12 @@ use mathlib.Core.Bool.{Bool, true, false}
 use mathlib.Core.List.{List}
 use native.Mathlib.Omega.{arith}
 use lib.Dec.{T}
-use lib.ListN.{length, getD}
+use lib.ListN.{length, getD, set}
 use borrow.Author.Tests.{lt-ltb}
 use Rattle.frames.specs.Frames.{bit, mark}
 use Rattle.frames.proofs.Marks.{mark-below, mark-none}
 use Rattle.exits.specs.Cost.{toldAt}
-use Rattle.exits.specs.Lists.{withExit, Lists, Gathered, Ranged}
+use Rattle.exits.specs.Lists.{Lists, Gathered, Ranged}
 use Rattle.exits.specs.Exits.{leftAt, Leaves, LeavesBy, Reading}
 use Rattle.exits.proofs.Listing.{lists-as, gathered-past, gathered-one}
 use Rattle.exits.proofs.Told.{square}
@@ -27,43 +27,44 @@ unfolding mark
 bit-mark words L o e w b r h f g k = rw (lt-ltb e (16 * words) h, ← f, ← g) k
 
 -- what reading asks, after exits were listed
-pub still-reading : {words size : ℕ} {W C L : List ℕ} {o : ℕ} {X X′ : List ℕ} → Reading words size W C L o X → length X′ ≡ length X → Reading words size W C L o X′
-still-reading r e = record {
+pub still-reading : {words size : ℕ} {W C L : List ℕ} {o : ℕ} {E A E′ A′ : List ℕ} → Reading words size W C L o E A → length E′ ≡ length E → length A′ ≡ length A → Reading words size W C L o E′ A′
+still-reading r e a = record {
   square = r .square;
   few-words = r .few-words;
   record-room = r .record-room;
   begins = r .begins;
-  list-room = rw e (r .list-room);
+  places-room = rw e (r .places-room);
+  costs-room = rw a (r .costs-room);
 }
 
-module _ {words size : ℕ} {W C L : List ℕ} {o : ℕ} {X : List ℕ} {e len : ℕ} (g : Gathered (LeavesBy words size W C L o) e X len) where
-  none-here : ((c : ℕ) → Leaves words size W C L o e c → ⊥) → Gathered (LeavesBy words size W C L o) (e + 1) X len
+module _ {words size : ℕ} {W C L : List ℕ} {o : ℕ} {E A : List ℕ} {e len : ℕ} (g : Gathered (LeavesBy words size W C L o) e E A len) where
+  none-here : ((c : ℕ) → Leaves words size W C L o e c → ⊥) → Gathered (LeavesBy words size W C L o) (e + 1) E A len
   none-here none = gathered-past _ g (omega arith) (λ i e′ c h k l. let f : e′ ≡ e = omega (arith, l .place-is) in none c (rw f at (l .leaves)))
 
   -- a place that is none of the `size`, one that is not marked, and one to which the way costs more than was left
-  pub place-past : size ≤ e → Gathered (LeavesBy words size W C L o) (e + 1) X len
+  pub place-past : size ≤ e → Gathered (LeavesBy words size W C L o) (e + 1) E A len
   place-past h = none-here (λ c l. omega (arith, l .below))
 
-  pub place-unmarked : (b : Bool) → b ≡ mark words L o e → b ≡ false → Gathered (LeavesBy words size W C L o) (e + 1) X len
+  pub place-unmarked : (b : Bool) → b ≡ mark words L o e → b ≡ false → Gathered (LeavesBy words size W C L o) (e + 1) E A len
   place-unmarked b f h = none-here (λ c l. not-both (mark words L o e) (sym f ∙ h) (l .marked))
 
-  pub place-beyond : (a row t k : ℕ) → a ≡ getD L o 0 → row ≡ a * size → t ≡ toldAt W C (row + e) → k ≡ leftAt L o → k < t → Gathered (LeavesBy words size W C L o) (e + 1) X len
+  pub place-beyond : (a row t k : ℕ) → a ≡ getD L o 0 → row ≡ a * size → t ≡ toldAt W C (row + e) → k ≡ leftAt L o → k < t → Gathered (LeavesBy words size W C L o) (e + 1) E A len
   place-beyond a row t k f r i j h = none-here (λ c l. omega (arith, l .left, rw (r, f) at i))
 
   -- an exit
-  pub place-listed : {X′ : List ℕ} (b : Bool) (a row t k r : ℕ) → Reading words size W C L o X → e < size → e < 16 * words → b ≡ mark words L o e → b ≡ true → a ≡ getD L o 0
-      → row ≡ a * size → t ≡ toldAt W C (row + e) → k ≡ leftAt L o → t ≤ k → r ≡ len + 1 → X′ ≡ withExit X len e (k - t)
-      → Gathered (LeavesBy words size W C L o) (e + 1) X′ r
-  place-listed b a row t k r rd he hw f h fa fr i j le er eX =
+  pub place-listed : {E′ A′ : List ℕ} (b : Bool) (a row t k r : ℕ) → Reading words size W C L o E A → e < size → e < 16 * words → b ≡ mark words L o e → b ≡ true → a ≡ getD L o 0
+      → row ≡ a * size → t ≡ toldAt W C (row + e) → k ≡ leftAt L o → t ≤ k → r ≡ len + 1 → E′ ≡ set E len e → A′ ≡ set A len (k - t)
+      → Gathered (LeavesBy words size W C L o) (e + 1) E′ A′ r
+  place-listed b a row t k r rd he hw f h fa fr i j le er eE eA =
       let i′ = rw (fr, fa) at i in
-      rw (er, eX)
-      (gathered-one _ g (omega (arith, g .few, rd .list-room))
+      rw (er, eE, eA)
+      (gathered-one _ g (omega (arith, g .few, rd .places-room)) (omega (arith, g .few, rd .costs-room))
       (record { place-is = refl; leaves = record { below = he; marked = true-holds (mark words L o e) (sym f ∙ h); left = omega arith } })
       (λ e′ c l. (l .place-is, (let q : e′ ≡ e = l .place-is in omega (arith, rw q at (l .leaves .left))))))
 
-module _ {words size : ℕ} {W C L : List ℕ} {o : ℕ} {X : List ℕ} {len : ℕ} where
+module _ {words size : ℕ} {W C L : List ℕ} {o : ℕ} {E A : List ℕ} {len : ℕ} where
   -- a word of zeros
-  pub word-past : (q : ℕ) → Gathered (LeavesBy words size W C L o) (16 * q) X len → (a : ℕ) → a ≡ getD L (o + 5 + q) 0 → a ≡ 0 → Gathered (LeavesBy words size W C L o) (16 * (q + 1)) X len
+  pub word-past : (q : ℕ) → Gathered (LeavesBy words size W C L o) (16 * q) E A len → (a : ℕ) → a ≡ getD L (o + 5 + q) 0 → a ≡ 0 → Gathered (LeavesBy words size W C L o) (16 * (q + 1)) E A len
   word-past q g a f h = gathered-past _ g (omega arith) none
     where
       none : (i e c : ℕ) → 16 * q ≤ i → i < 16 * (q + 1) → LeavesBy words size W C L o i e c → ⊥
@@ -72,8 +73,8 @@ module _ {words size : ℕ} {W C L : List ℕ} {o : ℕ} {X : List ℕ} {len : �
           mark-none words L o e (rw d (sym f ∙ h)) (s .leaves .marked)
 
 -- every place has been passed
-pub level-listed : {words size : ℕ} {W C L : List ℕ} {o : ℕ} {X : List ℕ} {len : ℕ} (q : ℕ) → q ≤ words → words ≤ q → Gathered (LeavesBy words size W C L o) (16 * q) X len
-    → (len ≤ 16 * words) × Lists (Leaves words size W C L o) X len
+pub level-listed : {words size : ℕ} {W C L : List ℕ} {o : ℕ} {E A : List ℕ} {len : ℕ} (q : ℕ) → q ≤ words → words ≤ q → Gathered (LeavesBy words size W C L o) (16 * q) E A len
+    → (len ≤ 16 * words) × Lists (Leaves words size W C L o) E A len
 level-listed {words} {size} {W} {C} {L} {o} q h k g =
     let e : q ≡ words = omega arith in (
       omega (arith, g .few),
@@ -82,10 +83,12 @@ level-listed {words} {size} {W} {C} {L} {o} q h k g =
     )
 
 -- a list of a level's exits is in range
-pub level-ranged : {words size : ℕ} {W C L : List ℕ} {o : ℕ} {X : List ℕ} {len : ℕ} → ((i : ℕ) → getD L i 0 < 65536) → 2 * len ≤ length X → Lists (Leaves words size W C L o) X len → Ranged size X len
+pub level-ranged : {words size : ℕ} {W C L : List ℕ} {o : ℕ} {E A : List ℕ} {len : ℕ} → ((i : ℕ) → getD L i 0 < 65536) → len ≤ length E → len ≤ length A → Lists (Leaves words size W C L o) E A len
+    → Ranged size E A len
 unfolding leftAt
-level-ranged {o = o} small e l = record {
-  room = e;
+level-ranged {o = o} small e a l = record {
+  places = e;
+  costs = a;
   place-below = λ i h. l .each i h .below;
   cost-below = λ i h. omega (arith, l .each i h .left, small (o + 2), small (o + 3), small (o + 4));
 }

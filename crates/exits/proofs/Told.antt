@@ -11,7 +11,7 @@ use borrow.Author.Tests.{le-leb, lt-leb, leb-true}
 use Rattle.paper.specs.Limits.{heaviest, longest, over-mark}
 use Rattle.laws.specs.Value.{within, over, never}
 use Rattle.exits.specs.Cost.{cost, far, told, value}
-use Rattle.exits.specs.Lists.{placeIn, Ranged}
+use Rattle.exits.specs.Lists.{Ranged}
 
 pub place-lt : (n p v x : ℕ) → v < n → x < p → v * p + x < n * p
 place-lt n p v x hv hx = omega (arith, mul-le-mul-right {m = suc v} {n = n} p hv, suc-mul v p)
@@ -61,6 +61,6 @@ told-near w s = go (leb w heaviest) (leb s longest) (leb-true w heaviest) (leb-t
     go false c f g i j h = absurd (omega arith)
 
 -- an exit's entry in a row
-module _ (W C X : List ℕ) (len size row i : ℕ) (r : Ranged size X len) (h : i < len) (hw : row + size ≤ length W) (hc : row + size ≤ length C) where
-  pub entry-in : (row + placeIn X i < length W) × (row + placeIn X i < length C)
+module _ (W C E A : List ℕ) (len size row i : ℕ) (r : Ranged size E A len) (h : i < len) (hw : row + size ≤ length W) (hc : row + size ≤ length C) where
+  pub entry-in : (row + getD E i 0 < length W) × (row + getD E i 0 < length C)
   entry-in = (omega (arith, r .place-below i h), omega (arith, r .place-below i h))

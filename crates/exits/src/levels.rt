@@ -43,12 +43,13 @@ fn list_place(
     count: &[u16],
     size: usize,
     e: usize,
-    exits: &mut [u64],
+    exits: &mut [u16],
+    costs: &mut [u64],
     len: usize,
 ) -> usize
-    requires { ⌜ Reading words size (now weight) (now count) (now choice) o (now exits) ⌝ }
-    requires { ⌜ (e < 16 * words) × Gathered (LeavesBy words size (now weight) (now count) (now choice) o) e (now exits) len ⌝ }
-    ensures { λ r. ⌜ Gathered (LeavesBy words size (now (weight .entry)) (now (count .entry)) (now (choice .entry)) o) (e + 1) (now (exits .exit)) r ⌝ }
+    requires { ⌜ Reading words size (now weight) (now count) (now choice) o (now exits) (now costs) ⌝ }
+    requires { ⌜ (e < 16 * words) × Gathered (LeavesBy words size (now weight) (now count) (now choice) o) e (now exits) (now costs) len ⌝ }
+    ensures { λ r. ⌜ Gathered (LeavesBy words size (now (weight .entry)) (now (count .entry)) (now (choice .entry)) o) (e + 1) (now (exits .exit)) (now (costs .exit)) r ⌝ }
 {
     if size <= e {
         return len;
@@ -61,7 +62,7 @@ fn list_place(
     if left < told {
         return len;
     }
-    add_exit(exits, len, e, left - told)
+    add_exit(exits, costs, len, e, left - told)
 }
 
 fn list_word(
@@ -72,12 +73,13 @@ fn list_word(
     count: &[u16],
     size: usize,
     q: usize,
-    exits: &mut [u64],
+    exits: &mut [u16],
+    costs: &mut [u64],
     len: usize,
 ) -> usize
-    requires { ⌜ Reading words size (now weight) (now count) (now choice) o (now exits) ⌝ }
-    requires { ⌜ (q < words) × Gathered (LeavesBy words size (now weight) (now count) (now choice) o) (16 * q) (now exits) len ⌝ }
-    ensures { λ r. ⌜ Gathered (LeavesBy words size (now (weight .entry)) (now (count .entry)) (now (choice .entry)) o) (16 * (q + 1)) (now (exits .exit)) r ⌝ }
+    requires { ⌜ Reading words size (now weight) (now count) (now choice) o (now exits) (now costs) ⌝ }
+    requires { ⌜ (q < words) × Gathered (LeavesBy words size (now weight) (now count) (now choice) o) (16 * q) (now exits) (now costs) len ⌝ }
+    ensures { λ r. ⌜ Gathered (LeavesBy words size (now (weight .entry)) (now (count .entry)) (now (choice .entry)) o) (16 * (q + 1)) (now (exits .exit)) (now (costs .exit)) r ⌝ }
 {
     if entry(choice, o + 5 + q) == 0 {
         return len;
@@ -85,7 +87,7 @@ fn list_word(
     let mut m = len;
     let mut e = 16 * q;
     while e < 16 * (q + 1) {
-        m = list_place(choice, o, words, weight, count, size, e, exits, m);
+        m = list_place(choice, o, words, weight, count, size, e, exits, costs, m);
         e += 1;
     }
     m
@@ -99,15 +101,16 @@ pub fn list_level(
     weight: &[u32],
     count: &[u16],
     size: usize,
-    exits: &mut [u64],
+    exits: &mut [u16],
+    costs: &mut [u64],
 ) -> usize
-    requires { ⌜ Reading words size (now weight) (now count) (now choice) o (now exits) ⌝ }
-    ensures { λ r. ⌜ (r ≤ 16 * words) × Lists (Leaves words size (now (weight .entry)) (now (count .entry)) (now (choice .entry)) o) (now (exits .exit)) r ⌝ }
+    requires { ⌜ Reading words size (now weight) (now count) (now choice) o (now exits) (now costs) ⌝ }
+    ensures { λ r. ⌜ (r ≤ 16 * words) × Lists (Leaves words size (now (weight .entry)) (now (count .entry)) (now (choice .entry)) o) (now (exits .exit)) (now (costs .exit)) r ⌝ }
 {
     let mut len = 0;
     let mut q = 0;
     while q < words {
-        len = list_word(choice, o, words, weight, count, size, q, exits, len);
+        len = list_word(choice, o, words, weight, count, size, q, exits, costs, len);
         q += 1;
     }
     len

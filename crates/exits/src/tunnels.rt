@@ -1,12 +1,11 @@
-// The exits of a tunnel over x that may be opened from a level whose exits are listed: the places where something unwraps what hides x,
-// each with the least cost from there on. That cost is reckoned node by node: of finishing from a node, and of the best link that leaves one.
+// The exits of a tunnel that may be opened from a level: the places where something unwraps what hides x, each with the least cost from there on.
 ghost use mathlib.Core.Path.{_≡_};
-ghost use Prim.Native.Nat.{ℕ, _+_, _*_, _<_, _≤_, min};
-ghost use lib.ListN.{length, getD, set};
-ghost use Rattle.paper.specs.Net.{place};
-ghost use Rattle.exits.specs.Cost.{far, Square};
-ghost use Rattle.exits.specs.Lists.{Ranged, Gathered, finishing};
-ghost use Rattle.exits.specs.Exits.{Finishes, Lands, Unwraps, Landing, Outing};
+ghost use Prim.Native.Nat.{_+_, _*_, _<_, _≤_};
+ghost use lib.ListN.{length};
+ghost use Rattle.records.specs.Valid.{Valid};
+ghost use Rattle.exits.specs.Cost.{far};
+ghost use Rattle.exits.specs.Lists.{Lists, Some, Gathered};
+ghost use Rattle.exits.specs.Exits.{Crossing, landing, lands, Unwraps};
 use crate::costs::FAR;
 use crate::costs::cost_of;
 use crate::costs::row_of;
@@ -23,110 +22,86 @@ use records::link_from;
 use records::link_to;
 use records::link_weight;
 
-// Stores in `costs` for each node, with x on top, the cost of finishing from it.
-pub fn finish_nodes(
+// Over link i, if it leaves node u, and then to the level's end.
+fn over_link(
+    links: &[u32],
+    c: usize,
     n: usize,
     p: usize,
     weight: &[u32],
     count: &[u16],
-    exits: &[u64],
+    exits: &[u16],
+    costs: &[u64],
     len: usize,
     x: usize,
-    costs: &mut [u64],
-)
-    requires { ⌜ Square (n * p) (now weight) (now count) × Ranged (n * p) (now exits) len × (x < p) × (n ≤ length (now costs)) ⌝ }
-    ensures { λ _. ⌜ Finishes n p (now (weight .entry)) (now (count .entry)) (now (exits .entry)) len x n (now (costs .exit)) ⌝ }
-{
-    let mut t = 0;
-    while t < n {
-        costs[t] = finish_node(n, p, weight, count, exits, len, x, t);
-        t += 1;
-    }
-}
-
-fn finish_node(
-    n: usize,
-    p: usize,
-    weight: &[u32],
-    count: &[u16],
-    exits: &[u64],
-    len: usize,
-    x: usize,
-    t: usize,
+    u: usize,
+    i: usize,
 ) -> u64
-    requires { ⌜ Square (n * p) (now weight) (now count) × Ranged (n * p) (now exits) len × (x < p) × (t < n) ⌝ }
-    ensures { λ r. ⌜ (r ≡ finishing (now (weight .entry)) (now (count .entry)) (now (exits .entry)) len (place p t x * (n * p))) × (r ≤ far) ⌝ }
+    requires { ⌜ (i < c) × Crossing n p c (now links) (now weight) (now count) (now exits) (now costs) len x ⌝ }
+    ensures { λ r. ⌜ r ≡ landing n p c (now (links .entry)) (now (weight .entry)) (now (count .entry)) (now (exits .entry)) (now (costs .entry)) len x u i ⌝ }
 {
+    if link_from(links, i) != u {
+        return FAR;
+    }
     let place = Place {
-        node: t,
+        node: link_to(links, i),
         protocol: x,
     };
     let row = row_of(n * p, place.number(n, p));
-    finish(weight, count, exits, len, n * p, row)
+    cost_of(link_weight(links, i), 1) + finish(weight, count, exits, costs, len, n * p, row)
 }
 
-// No way on yet from any of the first n nodes.
-fn no_ways(ways: &mut [u64], n: usize)
-    requires { ⌜ n ≤ length (now ways) ⌝ }
-    ensures { λ _. ⌜ ((u : ℕ) → u < n → getD (now (ways .exit)) u 0 ≡ far) ⌝ }
+// Over the best link that leaves node u.
+fn land(
+    links: &[u32],
+    c: usize,
+    n: usize,
+    p: usize,
+    weight: &[u32],
+    count: &[u16],
+    exits: &[u16],
+    costs: &[u64],
+    len: usize,
+    x: usize,
+    u: usize,
+) -> u64
+    requires { ⌜ Crossing n p c (now links) (now weight) (now count) (now exits) (now costs) len x ⌝ }
+    ensures { λ r. ⌜ (r ≡ lands n p c (now (links .entry)) (now (weight .entry)) (now (count .entry)) (now (exits .entry)) (now (costs .entry)) len x u) × (r ≤ far) ⌝ }
 {
-    let mut u = 0;
-    while u < n {
-        ways[u] = FAR;
-        u += 1;
-    }
-}
-
-fn cost_at(costs: &[u64], t: usize) -> u64
-    requires { ⌜ t < length (now costs) ⌝ }
-    ensures { λ r. ⌜ r ≡ getD (now (costs .entry)) t 0 ⌝ }
-{
-    costs[t]
-}
-
-fn lower(ways: &mut [u64], u: usize, cost: u64)
-    requires { ⌜ u < length (now ways) ⌝ }
-    ensures { λ _. ⌜ now (ways .exit) ≡ set (now (ways .entry)) u (min (getD (now (ways .entry)) u 0) cost) ⌝ }
-{
-    ways[u] = smaller(ways[u], cost);
-}
-
-// Lowers the cost of the node that link i leaves to that over link i.
-fn land_link(links: &[u32], c: usize, n: usize, costs: &[u64], ways: &mut [u64], i: usize)
-    requires { ⌜ (i < c) × Landing n c (now links) (now costs) (now ways) × Lands n i (now links) (now costs) (now ways) ⌝ }
-    ensures { λ _. ⌜ Lands n (i + 1) (now (links .entry)) (now (costs .entry)) (now (ways .exit)) ⌝ }
-{
-    let cost = cost_of(link_weight(links, i), 1) + cost_at(costs, link_to(links, i));
-    lower(ways, link_from(links, i), cost);
-}
-
-// Stores in `ways` for each node the cost over the best link that leaves it, and then of finishing, which `costs` has for each node.
-pub fn land_nodes(links: &[u32], c: usize, n: usize, costs: &[u64], ways: &mut [u64])
-    requires { ⌜ Landing n c (now links) (now costs) (now ways) ⌝ }
-    ensures { λ _. ⌜ Lands n c (now (links .entry)) (now (costs .entry)) (now (ways .exit)) ⌝ }
-{
-    no_ways(ways, n);
+    let mut best = FAR;
     let mut i = 0;
     while i < c {
-        land_link(links, c, n, costs, ways, i);
+        best = smaller(
+            best,
+            over_link(links, c, n, p, weight, count, exits, costs, len, x, u, i),
+        );
         i += 1;
     }
+    best
 }
 
 // Function j, if it unwraps what hides x.
 fn list_fun(
+    links: &[u32],
+    c: usize,
     funs: &[u32],
     d: usize,
     n: usize,
     p: usize,
-    ways: &[u64],
+    weight: &[u32],
+    count: &[u16],
+    exits: &[u16],
+    costs: &[u64],
+    len: usize,
     x: usize,
     j: usize,
-    outs: &mut [u64],
+    outs: &mut [u16],
+    fees: &mut [u64],
     m: usize,
 ) -> usize
-    requires { ⌜ (j < d) × Outing n p d (now funs) (now ways) (now outs) × Gathered (Unwraps p (now ways) x (now funs)) j (now outs) m ⌝ }
-    ensures { λ r. ⌜ Gathered (Unwraps p (now (ways .entry)) x (now (funs .entry))) (j + 1) (now (outs .exit)) r ⌝ }
+    requires { ⌜ Valid n p c (now links) d (now funs) × Crossing n p c (now links) (now weight) (now count) (now exits) (now costs) len x × (d ≤ length (now outs)) × (d ≤ length (now fees)) ⌝ }
+    requires { ⌜ (j < d) × Gathered (Unwraps n p c (now links) (now weight) (now count) (now exits) (now costs) len x (now funs)) j (now outs) (now fees) m ⌝ }
+    ensures { λ r. ⌜ Gathered (Unwraps n p c (now (links .entry)) (now (weight .entry)) (now (count .entry)) (now (exits .entry)) (now (costs .entry)) len x (now (funs .entry))) (j + 1) (now (outs .exit)) (now (fees .exit)) r ⌝ }
 {
     if fun_kind(funs, j) != 2 {
         return m;
@@ -135,7 +110,8 @@ fn list_fun(
         return m;
     }
     let u = fun_node(funs, j);
-    let cost = cost_of(fun_weight(funs, j), 0) + cost_at(ways, u);
+    let cost = cost_of(fun_weight(funs, j), 0)
+        + land(links, c, n, p, weight, count, exits, costs, len, x, u);
     if FAR <= cost {
         return m;
     }
@@ -143,26 +119,50 @@ fn list_fun(
         node: u,
         protocol: fun_y(funs, j),
     };
-    add_exit(outs, m, place.number(n, p), cost)
+    add_exit(outs, fees, m, place.number(n, p), cost)
 }
 
-// The exits of the tunnel, where `ways` has for each node the cost over the best link that leaves it and then of finishing.
+// The exits of a tunnel over x, opened from the level whose exits are listed.
 pub fn list_tunnel(
+    links: &[u32],
+    c: usize,
     funs: &[u32],
     d: usize,
     n: usize,
     p: usize,
-    ways: &[u64],
+    weight: &[u32],
+    count: &[u16],
+    exits: &[u16],
+    costs: &[u64],
+    len: usize,
     x: usize,
-    outs: &mut [u64],
+    outs: &mut [u16],
+    fees: &mut [u64],
 ) -> usize
-    requires { ⌜ Outing n p d (now funs) (now ways) (now outs) ⌝ }
-    ensures { λ r. ⌜ Gathered (Unwraps p (now (ways .entry)) x (now (funs .entry))) d (now (outs .exit)) r ⌝ }
+    requires { ⌜ Valid n p c (now links) d (now funs) × Crossing n p c (now links) (now weight) (now count) (now exits) (now costs) len x × (d ≤ length (now outs)) × (d ≤ length (now fees)) ⌝ }
+    ensures { λ r. ⌜ Gathered (Unwraps n p c (now (links .entry)) (now (weight .entry)) (now (count .entry)) (now (exits .entry)) (now (costs .entry)) len x (now (funs .entry))) d (now (outs .exit)) (now (fees .exit)) r ⌝ }
 {
     let mut m = 0;
     let mut j = 0;
     while j < d {
-        m = list_fun(funs, d, n, p, ways, x, j, outs, m);
+        m = list_fun(
+            links,
+            c,
+            funs,
+            d,
+            n,
+            p,
+            weight,
+            count,
+            exits,
+            costs,
+            len,
+            x,
+            j,
+            outs,
+            fees,
+            m,
+        );
         j += 1;
     }
     m

@@ -37,35 +37,35 @@ module _ {words o : ℕ} where
         only = λ e y. ⊎-elim (λ z. ⊎-elim (λ s. inl s) (λ p. inr (left e p)) (a .only e z)) (λ q. inr (right e q)) (c .only e y);
       }
 
-  module _ (W C Y : List ℕ) (row k : ℕ) where
-    pub meets-none : {L : List ℕ} → Adds words o (MeetsOne W C Y row k 0) L L
+  module _ (W C O F : List ℕ) (row k : ℕ) where
+    pub meets-none : {L : List ℕ} → Adds words o (MeetsOne W C O F row k 0) L L
     meets-none = adds-none (λ e y. omega (arith, y .below))
 
-    pub meets-more : {L L′ L″ : List ℕ} (m : ℕ) → Adds words o (MeetsOne W C Y row k m) L L′ → Adds words o (Meets W C Y row k m) L′ L″ → Adds words o (MeetsOne W C Y row k (m + 1)) L L″
+    pub meets-more : {L L′ L″ : List ℕ} (m : ℕ) → Adds words o (MeetsOne W C O F row k m) L L′ → Adds words o (Meets W C O F row k m) L′ L″ → Adds words o (MeetsOne W C O F row k (m + 1)) L L″
     meets-more m a c = adds-then split (λ e y. record { at = y .at; below = omega (arith, y .below); is = y .is }) (λ e y. record { at = m; below = omega arith; is = y }) a c
       where
-        split : (e : ℕ) → MeetsOne W C Y row k (m + 1) e → MeetsOne W C Y row k m e ⊎ Meets W C Y row k m e
+        split : (e : ℕ) → MeetsOne W C O F row k (m + 1) e → MeetsOne W C O F row k m e ⊎ Meets W C O F row k m e
         split e y = go (decLt (y .at) m)
           where
-            go : Dec (y .at < m) → MeetsOne W C Y row k m e ⊎ Meets W C Y row k m e
+            go : Dec (y .at < m) → MeetsOne W C O F row k m e ⊎ Meets W C O F row k m e
             go (yes h) = inl (record { at = y .at; below = h; is = y .is })
             go (no h) = let f : y .at ≡ m = omega (arith, y .below) in inr (rw f at (y .is))
 
-    pub meets-all : {L L′ : List ℕ} (i m : ℕ) → i ≤ m → m ≤ i → Adds words o (MeetsOne W C Y row k i) L L′ → Adds words o (MeetsOne W C Y row k m) L L′
+    pub meets-all : {L L′ : List ℕ} (i m : ℕ) → i ≤ m → m ≤ i → Adds words o (MeetsOne W C O F row k i) L L′ → Adds words o (MeetsOne W C O F row k m) L L′
     meets-all i m h g a = let e : i ≡ m = omega arith in rw e at a
 
     -- exit i is marked, or left
-    module _ {size len : ℕ} {L : List ℕ} (i : ℕ) (mk : Marking words size W C Y len row o L) (h : i < len) where
-      pub exit-below : (e : ℕ) → e ≡ placeIn Y i → o + 5 + e / 16 < length L
+    module _ {size len : ℕ} {L : List ℕ} (i : ℕ) (mk : Marking words size W C O F len row o L) (h : i < len) where
+      pub exit-below : (e : ℕ) → e ≡ getD O i 0 → o + 5 + e / 16 < length L
       exit-below e f = omega (arith, div-add-mod e 16, mk .ranged .place-below i h, mk .enough, mk .record-room)
 
-      pub exit-marked : {L′ : List ℕ} (a e : ℕ) → a ≡ toldAt W C (row + placeIn Y i) + costIn Y i → a ≡ k → e ≡ placeIn Y i → L′ ≡ withMark L o e → Adds words o (Meets W C Y row k i) L L′
+      pub exit-marked : {L′ : List ℕ} (a e : ℕ) → a ≡ toldAt W C (row + getD O i 0) + getD F i 0 → a ≡ k → e ≡ getD O i 0 → L′ ≡ withMark L o e → Adds words o (Meets W C O F row k i) L L′
       exit-marked a e q met f g =
           adds-one e g (omega (arith, mk .ranged .place-below i h, mk .enough)) (mk .record-room) (record { is = sym f; met = sym q ∙ met }) (λ e′ y. sym (y .is) ∙ sym f)
 
-    pub exit-left : {L : List ℕ} (i a : ℕ) → a ≡ toldAt W C (row + placeIn Y i) + costIn Y i → (a ≡ k → ⊥) → Adds words o (Meets W C Y row k i) L L
+    pub exit-left : {L : List ℕ} (i a : ℕ) → a ≡ toldAt W C (row + getD O i 0) + getD F i 0 → (a ≡ k → ⊥) → Adds words o (Meets W C O F row k i) L L
     exit-left i a q h = adds-none (λ e y. h (q ∙ y .met))
 
 -- what marking asks, after some was marked
-pub still-marking : {words size : ℕ} {W C Y : List ℕ} {len row o : ℕ} {L L′ : List ℕ} → Marking words size W C Y len row o L → length L′ ≡ length L → Marking words size W C Y len row o L′
+pub still-marking : {words size : ℕ} {W C O F : List ℕ} {len row o : ℕ} {L L′ : List ℕ} → Marking words size W C O F len row o L → length L′ ≡ length L → Marking words size W C O F len row o L′
 still-marking m e = record { ranged = m .ranged; weights = m .weights; counts = m .counts; enough = m .enough; record-room = rw e (m .record-room) }

@@ -179,13 +179,13 @@ module _ (n p : ℕ) (W C : List ℕ) where
           rw (k .costs) (at-most-cost u m (k .w) (k .m) (here .short) (rw (g .weighs, g .counts) at (here .least .least (g .by))))
 
       -- the listed exits of the level whose record begins at entry o
-      module _ (words : ℕ) (L : List ℕ) (o : ℕ) (hp : 0 < p) {X : List ℕ} {len : ℕ} (l : Lists (Leaves words (n * p) W C L o) X len) where
+      module _ (words : ℕ) (L : List ℕ) (o : ℕ) (hp : 0 < p) {E A : List ℕ} {len : ℕ} (l : Lists (Leaves words (n * p) W C L o) E A len) where
         abbrev f : Frame
         f = heldAt p words L o
 
         -- the least cost of finishing from (r, q)
         abbrev finished : (r q : ℕ) → ℕ
-        finished r q = finishing W C X len (place p r q * (n * p))
+        finished r q = finishing W C E A len (place p r q * (n * p))
 
         module _ {H : List ℕ} (ms : Marks hop n p t D b f H) (hf : f .counts ≤ 4096) where
           pub level-comes : (r q : ℕ) → finished r q < far → Comes f r q (finished r q)

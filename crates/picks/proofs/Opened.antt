@@ -26,8 +26,8 @@ use Rattle.picks.proofs.Standing.{here-place, look-here}
 
 -- ## Writing
 
-module _ {n p : ℕ} {W C Y : List ℕ} {len : ℕ} {L : List ℕ} {o x r z : ℕ} (w : Writing n p W C Y len L o x r z) where
-  pub write-marking : {L′ : List ℕ} (q a row : ℕ) → q ≡ wordsFor (n * p) → a ≡ place p r z → row ≡ a * (n * p) → row + n * p ≤ n * p * (n * p) → length L′ ≡ length L → Marking q (n * p) W C Y len row o L′
+module _ {n p : ℕ} {W C O F : List ℕ} {len : ℕ} {L : List ℕ} {o x r z : ℕ} (w : Writing n p W C O F len L o x r z) where
+  pub write-marking : {L′ : List ℕ} (q a row : ℕ) → q ≡ wordsFor (n * p) → a ≡ place p r z → row ≡ a * (n * p) → row + n * p ≤ n * p * (n * p) → length L′ ≡ length L → Marking q (n * p) W C O F len row o L′
   write-marking q a row eq ea er le el = record {
     ranged = w .ranged;
     weights = omega (arith, le, w .square .weights);
@@ -37,11 +37,11 @@ module _ {n p : ℕ} {W C Y : List ℕ} {len : ℕ} {L : List ℕ} {o x r z : �
   }
 
   pub written : {L₁ L₂ : List ℕ} (q a h row k u j : ℕ) → q ≡ wordsFor (n * p) → a ≡ place p r z → h ≡ x → row ≡ a * (n * p) → k ≡ cost u j → L₁ ≡ laid L o (blank q a h u j)
-      → Adds q o (MeetsOne W C Y row k len) L₁ L₂ → Written n p W C Y len L L₂ o x r z u j
+      → Adds q o (MeetsOne W C O F row k len) L₁ L₂ → Written n p W C O F len L L₂ o x r z u j
   written {L₁} {L₂} q a h row k u j eq ea eh er ek e y =
       let e′ : L₁ ≡ laid L o (blank (wordsFor (n * p)) (place p r z) x u j) = rw (eq, ea, eh) at e in
       let er′ : row ≡ place p r z * (n * p) = rw ea at er in
-      let y′ : Adds (wordsFor (n * p)) o (MeetsOne W C Y (place p r z * (n * p)) (cost u j) len) L₁ L₂ = rw (eq, er′, ek) at y in
+      let y′ : Adds (wordsFor (n * p)) o (MeetsOne W C O F (place p r z * (n * p)) (cost u j) len) L₁ L₂ = rw (eq, er′, ek) at y in
       let g = blank-headed L L₁ o (wordsFor (n * p)) (place p r z) x u j (w .room) e′ in
       record {
         headed = record {
@@ -74,7 +74,7 @@ module _ {n p c : ℕ} {ls : List ℕ} {d : ℕ} {fs W C : List ℕ} {D b : ℕ}
   pub open-look : (q o : ℕ) → q ≡ words → o ≡ (q + 5) * k → (x < p) × Looking n p c ls d fs W C L o m
   open-look q o eq eo = (here-place n p c ls d fs W C D b (y .stands) .1, look-here n p c ls d fs W C D b k o q (y .stands) (omega (arith, y .counts)) eq eo)
 
-  pub open-writing : {Y : List ℕ} {len : ℕ} (q o : ℕ) → q ≡ words → o ≡ (q + 5) * k → Ranged (n * p) Y len → Writing n p W C Y len L (o + (q + 5)) x r z
+  pub open-writing : {O F : List ℕ} {len : ℕ} (q o : ℕ) → q ≡ words → o ≡ (q + 5) * k → Ranged (n * p) O F len → Writing n p W C O F len L (o + (q + 5)) x r z
   open-writing q o eq eo g =
       let i = steps-inside n p c ls d fs (y .stands .valid) .inside _ _ _ _ _ _ _ (y .wraps) in
       record {
@@ -86,14 +86,14 @@ module _ {n p c : ℕ} {ls : List ℕ} {d : ℕ} {fs W C : List ℕ} {D b : ℕ}
         room = omega (arith, next-record q o eq eo, y .room);
       }
 
-  module _ {Y : List ℕ} {len : ℕ} {L′ : List ℕ} (q o : ℕ) (eq : q ≡ words) (eo : o ≡ (q + 5) * k) (out : Outward n p c ls d fs W C L o x Y len) (wr : Written n p W C Y len L L′ (o + (q + 5)) x r z u j) where
+  module _ {O F : List ℕ} {len : ℕ} {L′ : List ℕ} (q o : ℕ) (eq : q ≡ words) (eo : o ≡ (q + 5) * k) (out : Outward n p c ls d fs W C L o x O F len) (wr : Written n p W C O F len L L′ (o + (q + 5)) x r z u j) where
     begins : o + (q + 5) ≡ (words + 5) * suc k
     begins = next-record q o eq eo
 
-    wrote : Written n p W C Y len L L′ ((words + 5) * suc k) x r z u j
+    wrote : Written n p W C O F len L L′ ((words + 5) * suc k) x r z u j
     wrote = rw begins at wr
 
-    listed : Outward n p c ls d fs W C L ((words + 5) * k) x Y len
+    listed : Outward n p c ls d fs W C L ((words + 5) * k) x O F len
     listed = let e : o ≡ (words + 5) * k = rw eq at eo in rw e at out
 
     pub open-kept : Kept p words k L L′

@@ -46,7 +46,7 @@ module _ (fs : List ℕ) (v k x h j : ℕ) where
 
 -- ## A step that is tried and passes
 
-module _ (n p c : ℕ) (ls : List ℕ) (d : ℕ) (fs W C X : List ℕ) (len v x w m k h : ℕ) where
+module _ (n p c : ℕ) (ls : List ℕ) (d : ℕ) (fs W C E A : List ℕ) (len v x w m k h : ℕ) where
   pub record Tried (s : Trial) : Type 0 where
     pub j : ℕ
     pub i : ℕ
@@ -58,10 +58,10 @@ module _ (n p c : ℕ) (ls : List ℕ) (d : ℕ) (fs W C X : List ℕ) (len v x 
     pub leaves : from ls i ≡ v
     pub weighs : w ≡ fee fs j + toll ls i + u
     pub counts : m ≡ suc q
-    pub finishes : finishing W C X len (place p (to ls i) (nextOf fs k j) * (n * p)) ≡ cost u q
+    pub finishes : finishing W C E A len (place p (to ls i) (nextOf fs k j) * (n * p)) ≡ cost u q
     pub is : s ≡ trial (number ls i ∷ k ∷ xOf fs j ∷ yOf fs j ∷ []) (to ls i) (nextOf fs k j) u q
 
-  pub any-tried : {s : Trial} → 0 < m → m ≤ 4096 → Any (ByFun n p c ls fs W C X len v x w m k h) d s → Tried s
+  pub any-tried : {s : Trial} → 0 < m → m ≤ 4096 → Any (ByFun n p c ls fs W C E A len v x w m k h) d s → Tried s
   any-tried {s} some-left few-left a =
       let o = a .is .over in
       let le : fee fs (a .at) + toll ls (o .at) ≤ w = omega (arith, o .is .pays) in
@@ -80,7 +80,7 @@ module _ (n p c : ℕ) (ls : List ℕ) (d : ℕ) (fs W C X : List ℕ) (len v x 
         is = o .is .is;
       }
 
-  pub tried-any : {s : Trial} → Tried s → Any (ByFun n p c ls fs W C X len v x w m k h) d s
+  pub tried-any : {s : Trial} → Tried s → Any (ByFun n p c ls fs W C E A len v x w m k h) d s
   tried-any {s} t =
       let eu : t .u ≡ w - (fee fs (t .j) + toll ls (t .i)) = omega (arith, t .weighs) in
       let eq : t .q ≡ m - 1 = omega (arith, t .counts) in

@@ -101,31 +101,31 @@ module _ (n p c : ℕ) (ls : List ℕ) (d : ℕ) (fs W C : List ℕ) (D b : ℕ)
   few-left s = nest-begun hop n p t D b inside exact (s .nest) .short
 
   -- the steps tried with the exits E and A
-  abbrev Tries : (X : List ℕ) (len v x w m k h : ℕ) → Trial → Type 0
-  Tries X len v x w m k h = Any (ByFun n p c ls fs W C X len v x w m k h) d
+  abbrev Tries : (E A : List ℕ) (len v x w m k h : ℕ) → Trial → Type 0
+  Tries E A len v x w m k h = Any (ByFun n p c ls fs W C E A len v x w m k h) d
 
   module _ (o : ℕ) {gs : List Frame} {v x w m : ℕ} (state : State hop n p t D b (at o) gs v x w m) (some-left : 0 < m) {s₁ s₂ : Trial}
       (l : ByLevel n p c ls d fs W C L o v x w m 0 0 nothing s₁) (q : ByTunnel n p c ls d fs W C L o v x w m s₁ s₂) where
     abbrev Convs : Trial → Type 0
-    Convs = Tries (l .X) (l .len) v x w m 0 0
+    Convs = Tries (l .E) (l .A) (l .len) v x w m 0 0
 
     abbrev Wraps : Trial → Type 0
-    Wraps = Tries (q .Y) (q .len) v x w m 1 0
+    Wraps = Tries (q .O) (q .F) (q .len) v x w m 1 0
 
     own-way : (s : Trial) → Convs s ⊎ Wraps s → Way hop n p t (at o) gs v x w m s
-    own-way s (inl y) = conv-way n p c ls d fs W C D b valid exact L o (l .lists) (state .nest) (any-tried n p c ls d fs W C (l .X) (l .len) v x w m 0 0 some-left (few-left state) y)
-    own-way s (inr y) = wrap-way n p c ls d fs W C D b valid exact L o (state .nest) (q .outward) (any-tried n p c ls d fs W C (q .Y) (q .len) v x w m 1 0 some-left (few-left state) y)
+    own-way s (inl y) = conv-way n p c ls d fs W C D b valid exact L o (l .lists) (state .nest) (any-tried n p c ls d fs W C (l .E) (l .A) (l .len) v x w m 0 0 some-left (few-left state) y)
+    own-way s (inr y) = wrap-way n p c ls d fs W C D b valid exact L o (state .nest) (q .outward) (any-tried n p c ls d fs W C (q .O) (q .F) (q .len) v x w m 1 0 some-left (few-left state) y)
 
     own-better : Better (λ s. Convs s ⊎ Wraps s) nothing s₂
     own-better = better-then (λ s y. y) (λ s y. inl y) (λ s y. inr y) (l .better) (q .better)
 
     conv-own : {r z u j : ℕ} (lk cw : ℕ) → hop (key lk conv x z) v ≡ some (r, cw) → w ≡ cw + u → m ≡ suc j → Ok hop n p t (at o) r z u j → Convs (trial (flat (key lk conv x z ∷ [])) r z u j)
     conv-own {r} {z} {u} {j} lk cw h pw pm ok =
-        tried-any n p c ls d fs W C (l .X) (l .len) v x w m 0 0 (conv-tried n p c ls d fs W C D b valid exact L o (l .lists) (state .nest) lk r z cw u j h pw pm ok)
+        tried-any n p c ls d fs W C (l .E) (l .A) (l .len) v x w m 0 0 (conv-tried n p c ls d fs W C D b valid exact L o (l .lists) (state .nest) lk r z cw u j h pw pm ok)
 
     wrap-own : {r z u j : ℕ} (lk cw : ℕ) → hop (key lk wrap x z) v ≡ some (r, cw) → w ≡ cw + u → m ≡ suc j → Opened hop n p t (at o) x r z u j → Wraps (trial (flat (key lk wrap x z ∷ [])) r z u j)
     wrap-own {r} {z} {u} {j} lk cw h pw pm op =
-        tried-any n p c ls d fs W C (q .Y) (q .len) v x w m 1 0 (wrap-tried n p c ls d fs W C D b valid exact L o (state .nest) (q .outward) lk r z cw u j h pw pm op)
+        tried-any n p c ls d fs W C (q .O) (q .F) (q .len) v x w m 1 0 (wrap-tried n p c ls d fs W C D b valid exact L o (state .nest) (q .outward) lk r z cw u j h pw pm op)
 
   -- at the bottom there is nothing to unwrap
   pub bottom-better : (o : ℕ) {v x w m : ℕ} (state : State hop n p t D b (at o) [] v x w m) → 0 < m → {s₁ s₂ : Trial} → ByLevel n p c ls d fs W C L o v x w m 0 0 nothing s₁
@@ -150,14 +150,14 @@ module _ (n p c : ℕ) (ls : List ℕ) (d : ℕ) (fs W C : List ℕ) (D b : ℕ)
   inner-better o o′ {gs} {v} {x} {w} {m} state some-left l q y =
       better-then
       (λ s a. rw (a .is)
-      (by-kind (λ s. (Convs o state some-left l q s ⊎ Wraps o state some-left l q s) ⊎ Tries (y .X) (y .len) v x w m 2 (at o .hidden) s)
+      (by-kind (λ s. (Convs o state some-left l q s ⊎ Wraps o state some-left l q s) ⊎ Tries (y .E) (y .A) (y .len) v x w m 2 (at o .hidden) s)
       (λ lk cw h pw pm ok. inl (inl (conv-own o state some-left l q lk cw h pw pm ok)))
       (λ lk cw h pw pm op. inl (inr (wrap-own o state some-left l q lk cw h pw pm op)))
       (λ g hs e lk cw hid h pw pm ok.
       let f : at o′ ≡ g = cc in
-      inr (tried-any n p c ls d fs W C (y .X) (y .len) v x w m 2 (at o .hidden)
+      inr (tried-any n p c ls d fs W C (y .E) (y .A) (y .len) v x w m 2 (at o .hidden)
       (unwrap-tried n p c ls d fs W C D b valid exact L o′ (y .lists) (state .nest) lk _ _ cw _ _ hid h pw pm (rw (← f) at ok))))
       (a .passes)))
       (λ s a. own-way o state some-left l q s a)
-      (λ s a. unwrap-way n p c ls d fs W C D b valid exact L o′ (y .lists) (state .nest) (any-tried n p c ls d fs W C (y .X) (y .len) v x w m 2 (at o .hidden) some-left (few-left state) a))
+      (λ s a. unwrap-way n p c ls d fs W C D b valid exact L o′ (y .lists) (state .nest) (any-tried n p c ls d fs W C (y .E) (y .A) (y .len) v x w m 2 (at o .hidden) some-left (few-left state) a))
       (own-better o state some-left l q) (y .better)

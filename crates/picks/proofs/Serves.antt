@@ -37,8 +37,8 @@ module _ (fs : List ℕ) (c j : ℕ) where
       go false = hy
 
 -- what trying function j over the links asks
-pub trying : {n p c : ℕ} {ls : List ℕ} {d : ℕ} {fs W C X : List ℕ} {len m : ℕ} (k j w z : ℕ) → Scanning n p c ls d fs W C X len m → j < d → w ≡ fee fs j → z ≡ nextOf fs k j
-    → Trying n p c ls W C X len m w z
+pub trying : {n p c : ℕ} {ls : List ℕ} {d : ℕ} {fs W C E A : List ℕ} {len m : ℕ} (k j w z : ℕ) → Scanning n p c ls d fs W C E A len m → j < d → w ≡ fee fs j → z ≡ nextOf fs k j
+    → Trying n p c ls W C E A len m w z
 trying {p = p} {fs = fs} k j w z s h ew ez =
     record {
       crossing = record {
@@ -56,14 +56,14 @@ trying {p = p} {fs = fs} k j w z s h ew ez =
       few-left = s .few-left;
     }
 
-module _ (n p c : ℕ) (ls fs W C X : List ℕ) (len v x w m k h j : ℕ) {b : Trial} where
-  pub fun-passed : (t : Bool) → t ≡ serves fs v k x h j → t ≡ false → Better (ByFun n p c ls fs W C X len v x w m k h j) b b
+module _ (n p c : ℕ) (ls fs W C E A : List ℕ) (len v x w m k h j : ℕ) {b : Trial} where
+  pub fun-passed : (t : Bool) → t ≡ serves fs v k x h j → t ≡ false → Better (ByFun n p c ls fs W C E A len v x w m k h j) b b
   fun-passed t e f = better-none (λ s q. let z : false ≡ true = sym f ∙ e ∙ q .serving in let y : _≡_ {A = ℕ} 0 1 = cc in omega arith)
 
   pub fun-tried : {r : Trial} (t : Bool) (kd xd yd wd zd : ℕ) → t ≡ serves fs v k x h j → t ≡ true → kd ≡ k → xd ≡ xOf fs j → yd ≡ yOf fs j → wd ≡ fee fs j → zd ≡ nextOf fs k j
-      → Better (Any (OverLink n p ls W C X len v w m kd xd yd wd zd) c) b r → Better (ByFun n p c ls fs W C X len v x w m k h j) b r
+      → Better (Any (OverLink n p ls W C E A len v w m kd xd yd wd zd) c) b r → Better (ByFun n p c ls fs W C E A len v x w m k h j) b r
   fun-tried {r} t kd xd yd wd zd e f ek ex ey ew ez q =
-      let q′ : Better (Any (OverLink n p ls W C X len v w m k (xOf fs j) (yOf fs j) (fee fs j) (nextOf fs k j)) c) b r = rw (ek, ex, ey, ew, ez) at q in
+      let q′ : Better (Any (OverLink n p ls W C E A len v w m k (xOf fs j) (yOf fs j) (fee fs j) (nextOf fs k j)) c) b r = rw (ek, ex, ey, ew, ez) at q in
       record {
         one-of = ⊎-elim (λ i. inl i) (λ i. inr (record { serving = sym e ∙ f; over = i })) (q′ .one-of);
         keeps = q′ .keeps;

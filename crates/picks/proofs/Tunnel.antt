@@ -50,7 +50,7 @@ module _ (n p c : ℕ) (ls : List ℕ) (d : ℕ) (fs : List ℕ) (records : Vali
     pub comes : Comes n p W C hop f to-node x rest-cost
     pub costs : k ≡ cost weighs 1 + rest-cost
 
-  module _ (D b : ℕ) (exact : Exact hop n p T′) (words : ℕ) (L : List ℕ) (o : ℕ) {X : List ℕ} {len : ℕ} (l : Lists (Leaves words (n * p) W C L o) X len) where
+  module _ (D b : ℕ) (exact : Exact hop n p T′) (words : ℕ) (L : List ℕ) (o : ℕ) {E A : List ℕ} {len : ℕ} (l : Lists (Leaves words (n * p) W C L o) E A len) where
     abbrev f : Frame
     f = heldAt p words L o
 
@@ -58,17 +58,17 @@ module _ (n p c : ℕ) (ls : List ℕ) (d : ℕ) (fs : List ℕ) (records : Vali
 
     module _ (x : ℕ) {H : List ℕ} (ms : Marks hop n p T′ D b f H) (hf : f .counts ≤ 4096) where
       abbrev On : (j e k : ℕ) → Type 0
-      On = Unwraps n p c ls W C X len x fs
+      On = Unwraps n p c ls W C E A len x fs
 
       pub unwraps-outs : {j e k : ℕ} → j < d → On j e k → Outs f x (node fs j) (yOf fs j) k
       unfolding kindAt
       unwraps-outs {j} {e} {k} hj s =
-          let g = lands-met n p c ls W C X len x (node fs j) (omega (arith, s .cost-is, s .near)) in
+          let g = lands-met n p c ls W C E A len x (node fs j) (omega (arith, s .cost-is, s .near)) in
           record {
             m = number ls (g .i);
             to-node = to ls (g .i);
             weighs = fee fs j + toll ls (g .i);
-            rest-cost = finishing W C X len (place p (to ls (g .i)) x * (n * p));
+            rest-cost = finishing W C E A len (place p (to ls (g .i)) x * (n * p));
             closes = step-at n p c ls d fs records j (g .i) (node fs j) 2 x hj (g .below) (g .leaves) refl (s .unwraps) (s .hides);
             comes = level-comes n p W C hop D b (steps-inside n p c ls d fs records) exact words L o (records .some-protocol) l ms hf (to ls (g .i)) x (omega (arith, s .cost-is, s .near, g .is));
             costs = omega (arith, s .cost-is, g .is);
@@ -85,15 +85,15 @@ module _ (n p c : ℕ) (ls : List ℕ) (d : ℕ) (fs : List ℕ) (records : Vali
       pub outs-brought : (m u y r w : ℕ) {v n′ : ℕ} → hop (key m unwrap x y) u ≡ some (r, w) → Ok hop n p T′ f r x v n′ → n′ ≤ 4096 → v ≤ 4000000000 → Brings u y (cost w 1 + cost v n′)
       outs-brought m u y r w {v} {n′} h ok hn hv =
           let g = found n p c ls d fs records m unwrap x y u r w h in
-          let low = lands-low n p c ls W C X len x u (g .i) (g .of-link) (g .at-from) in
+          let low = lands-low n p c ls W C E A len x u (g .i) (g .of-link) (g .at-from) in
           let fin = level-low n p W C hop D b (steps-inside n p c ls d fs records) exact words L o (records .some-protocol) l ms hf r x hn ok in
-          let e = ap (λ (q : ℕ). finishing W C X len (place p q x * (n * p))) (g .has-to) in
-          let z = ap (λ (q : ℕ). lands n p c ls W C X len x q) (g .at-node) in
+          let e = ap (λ (q : ℕ). finishing W C E A len (place p q x * (n * p))) (g .has-to) in
+          let z = ap (λ (q : ℕ). lands n p c ls W C E A len x q) (g .at-node) in
           let most = records .fun-weight (g .j) (g .of-fun) in
           let more = records .link-weight (g .i) (g .of-link) in
           record {
             j = g .j;
-            cost-of = cost (fee fs (g .j)) 0 + lands n p c ls W C X len x (node fs (g .j));
+            cost-of = cost (fee fs (g .j)) 0 + lands n p c ls W C E A len x (node fs (g .j));
             below = g .of-fun;
             by = record {
               unwraps = kind-is n p c ls d fs records unwrap (g .j) (g .of-fun) (g .has-kind);
@@ -153,9 +153,9 @@ module _ (n p c : ℕ) (ls : List ℕ) (d : ℕ) (fs : List ℕ) (records : Vali
             ok = s .comes .ok;
           }
 
-      module _ {Y : List ℕ} {len′ : ℕ} (g : Gathered (Unwraps n p c ls W C X len x fs) d Y len′) where
+      module _ {O F : List ℕ} {len′ : ℕ} (g : Gathered (Unwraps n p c ls W C E A len x fs) d O F len′) where
         abbrev Q : (e k : ℕ) → Type 0
-        Q = Some (Unwraps n p c ls W C X len x fs) d
+        Q = Some (Unwraps n p c ls W C E A len x fs) d
 
         some-outs : {e k : ℕ} → Q e k → Outs f x (e / p) (e % p) k
         some-outs {e} {k} s =
@@ -170,14 +170,14 @@ module _ (n p c : ℕ) (ls : List ℕ) (d : ℕ) (fs : List ℕ) (records : Vali
         sum-is e k s q = rw (div-add-mod' e p) q
 
         -- an exit of the list over which what is left is met, and each of the tunnel's exits, which is one of those
-        pub listed-opens : (i : ℕ) → i < len′ → toldAt W C (place p r z * (n * p) + placeIn Y i) + costIn Y i ≡ cost u m → Opens hop n p T′ f x r z u m (placeIn Y i / p) (placeIn Y i % p)
-        listed-opens i h e = outs-opens (some-outs (g .lists .each i h)) (sum-is (placeIn Y i) (costIn Y i) (cost u m) e)
+        pub listed-opens : (i : ℕ) → i < len′ → toldAt W C (place p r z * (n * p) + getD O i 0) + getD F i 0 ≡ cost u m → Opens hop n p T′ f x r z u m (getD O i 0 / p) (getD O i 0 % p)
+        listed-opens i h e = outs-opens (some-outs (g .lists .each i h)) (sum-is (getD O i 0) (getD F i 0) (cost u m) e)
 
         pub record Listed (e : ℕ) : Type 0 where
           pub i : ℕ
           pub below : i < len′
-          pub is : placeIn Y i ≡ e
-          pub met : toldAt W C (place p r z * (n * p) + placeIn Y i) + costIn Y i ≡ cost u m
+          pub is : getD O i 0 ≡ e
+          pub met : toldAt W C (place p r z * (n * p) + getD O i 0) + getD F i 0 ≡ cost u m
 
         pub opens-listed : (i j : ℕ) → i < n → j < p → Opens hop n p T′ f x r z u m i j → Listed (place p i j)
         opens-listed i j hi hj s =
@@ -191,10 +191,10 @@ module _ (n p c : ℕ) (ls : List ℕ) (d : ℕ) (fs : List ℕ) (records : Vali
             record { i = h .at; below = h .below; is = h .is; met = omega (arith, q, e, h .most, b .most, s .weighs, s .counts, least) }
 
         -- the test
-        pub tunnel-test : (finishing W C Y len′ (place p r z * (n * p)) ≡ cost u m) ↔ Opened hop n p T′ f x r z u m
+        pub tunnel-test : (finishing W C O F len′ (place p r z * (n * p)) ≡ cost u m) ↔ Opened hop n p T′ f x r z u m
         tunnel-test = (there, back)
           where
-            there : finishing W C Y len′ (place p r z * (n * p)) ≡ cost u m → Opened hop n p T′ f x r z u m
+            there : finishing W C O F len′ (place p r z * (n * p)) ≡ cost u m → Opened hop n p T′ f x r z u m
             there e =
                 let h = finish-met Q W C (g .lists) (place p r z * (n * p)) (omega (arith, start .light, start .short)) in
                 record {
@@ -205,11 +205,11 @@ module _ (n p c : ℕ) (ls : List ℕ) (d : ℕ) (fs : List ℕ) (records : Vali
                   opens = outs-opens (some-outs (h .is)) (sum-is (h .e) (h .c) (cost u m) (h .sum ∙ e));
                 }
 
-            back : Opened hop n p T′ f x r z u m → finishing W C Y len′ (place p r z * (n * p)) ≡ cost u m
+            back : Opened hop n p T′ f x r z u m → finishing W C O F len′ (place p r z * (n * p)) ≡ cost u m
             back q =
                 let s = opens-listed (q .u) (q .y) (q .node) (q .protocol) (q .opens) in
                 let low = finish-low Q W C (g .lists) (place p r z * (n * p)) (g .lists .each (s .i) (s .below)) in
                 let h = finish-met Q W C (g .lists) (place p r z * (n * p)) (omega (arith, s .met, start .light, start .short)) in
-                let sum = sum-is (h .e) (h .c) (finishing W C Y len′ (place p r z * (n * p))) (h .sum) in
+                let sum = sum-is (h .e) (h .c) (finishing W C O F len′ (place p r z * (n * p))) (h .sum) in
                 let high = outs-least (div-lt-iff-lt-mul (records .some-protocol) .1 (some-below (h .is))) (mod-lt (h .e) (records .some-protocol)) (some-outs (h .is)) (omega (arith, sum, low, s .met, start .light, start .short)) in
                 omega (arith, low, s .met, high, sum)

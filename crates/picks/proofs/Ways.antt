@@ -52,9 +52,9 @@ module _ (n p c : ℕ) (ls : List ℕ) (d : ℕ) (fs W C : List ℕ) (D b : ℕ)
 
   -- ## In the level of the record
 
-  module _ {X : List ℕ} {len : ℕ} (l : Lists (Leaves words (n * p) W C L o) X len) where
+  module _ {E A : List ℕ} {len : ℕ} (l : Lists (Leaves words (n * p) W C L o) E A len) where
     module _ {gs : List Frame} {v x w m : ℕ} (nest : Nest hop n p t D b f gs v x w m) where
-      pub conv-way : {s : Trial} → Tried n p c ls d fs W C X len v x w m 0 0 s → Way hop n p t f gs v x w m s
+      pub conv-way : {s : Trial} → Tried n p c ls d fs W C E A len v x w m 0 0 s → Way hop n p t f gs v x w m s
       unfolding kindAt topOf nextOf flat
       conv-way {s} e =
           let y = e .served in
@@ -72,7 +72,7 @@ module _ (n p c : ℕ) (ls : List ℕ) (d : ℕ) (fs W C : List ℕ) (D b : ℕ)
           }
 
       pub conv-tried : (lk r z cw u q : ℕ) → hop (key lk conv x z) v ≡ some (r, cw) → w ≡ cw + u → m ≡ suc q → Ok hop n p t f r z u q
-          → Tried n p c ls d fs W C X len v x w m 0 0 (trial (flat (key lk conv x z ∷ [])) r z u q)
+          → Tried n p c ls d fs W C E A len v x w m 0 0 (trial (flat (key lk conv x z ∷ [])) r z u q)
       unfolding topOf nextOf flat
       conv-tried lk r z cw u q h pw pm ok =
           let g = found n p c ls d fs valid lk conv x z v r cw h in
@@ -95,7 +95,7 @@ module _ (n p c : ℕ) (ls : List ℕ) (d : ℕ) (fs W C : List ℕ) (D b : ℕ)
     -- ## Out of the level above it, of g, by an unwrap
 
     module _ {g : Frame} {gs : List Frame} {v x w m : ℕ} (nest : Nest hop n p t D b g (f ∷ gs) v x w m) where
-      pub unwrap-way : {s : Trial} → Tried n p c ls d fs W C X len v x w m 2 (g .hidden) s → Way hop n p t g (f ∷ gs) v x w m s
+      pub unwrap-way : {s : Trial} → Tried n p c ls d fs W C E A len v x w m 2 (g .hidden) s → Way hop n p t g (f ∷ gs) v x w m s
       unfolding kindAt topOf nextOf flat
       unwrap-way {s} e =
           let y = e .served in
@@ -115,7 +115,7 @@ module _ (n p c : ℕ) (ls : List ℕ) (d : ℕ) (fs W C : List ℕ) (D b : ℕ)
           }
 
       pub unwrap-tried : (lk r z cw u q : ℕ) → g .hidden ≡ z → hop (key lk unwrap z x) v ≡ some (r, cw) → w ≡ cw + u → m ≡ suc q → Ok hop n p t f r z u q
-          → Tried n p c ls d fs W C X len v x w m 2 (g .hidden) (trial (flat (key lk unwrap z x ∷ [])) r z u q)
+          → Tried n p c ls d fs W C E A len v x w m 2 (g .hidden) (trial (flat (key lk unwrap z x ∷ [])) r z u q)
       unfolding topOf nextOf flat
       unwrap-tried lk r z cw u q hid h pw pm ok =
           let e = found n p c ls d fs valid lk unwrap z x v r cw h in
@@ -137,8 +137,8 @@ module _ (n p c : ℕ) (ls : List ℕ) (d : ℕ) (fs W C : List ℕ) (D b : ℕ)
 
   -- ## Into a tunnel from the level of the record
 
-  module _ {gs : List Frame} {v x w m : ℕ} (nest : Nest hop n p t D b f gs v x w m) {Y : List ℕ} {len : ℕ} (l : Outward n p c ls d fs W C L o x Y len) where
-    pub wrap-way : {s : Trial} → Tried n p c ls d fs W C Y len v x w m 1 0 s → Way hop n p t f gs v x w m s
+  module _ {gs : List Frame} {v x w m : ℕ} (nest : Nest hop n p t D b f gs v x w m) {O F : List ℕ} {len : ℕ} (l : Outward n p c ls d fs W C L o x O F len) where
+    pub wrap-way : {s : Trial} → Tried n p c ls d fs W C O F len v x w m 1 0 s → Way hop n p t f gs v x w m s
     unfolding kindAt topOf nextOf flat
     wrap-way {s} e =
         let y = e .served in
@@ -155,7 +155,7 @@ module _ (n p c : ℕ) (ls : List ℕ) (d : ℕ) (fs W C : List ℕ) (D b : ℕ)
         }
 
     pub wrap-tried : (lk r z cw u q : ℕ) → hop (key lk wrap x z) v ≡ some (r, cw) → w ≡ cw + u → m ≡ suc q → Opened hop n p t f x r z u q
-        → Tried n p c ls d fs W C Y len v x w m 1 0 (trial (flat (key lk wrap x z ∷ [])) r z u q)
+        → Tried n p c ls d fs W C O F len v x w m 1 0 (trial (flat (key lk wrap x z ∷ [])) r z u q)
     unfolding topOf nextOf flat
     wrap-tried lk r z cw u q h pw pm opened =
         let g = found n p c ls d fs valid lk wrap x z v r cw h in

@@ -21,18 +21,18 @@ pub record Adds (words o : ℕ) (P : ℕ → Type 0) (L L′ : List ℕ) : Type 
   pub only : (e : ℕ) → T (mark words L′ o e) → T (mark words L o e) ⊎ P e
 
 -- exit i of a list is the place e, and the way over it costs k
-pub record Meets (W C Y : List ℕ) (row k i e : ℕ) : Type 0 where
-  pub is : placeIn Y i ≡ e
-  pub met : toldAt W C (row + placeIn Y i) + costIn Y i ≡ k
+pub record Meets (W C O F : List ℕ) (row k i e : ℕ) : Type 0 where
+  pub is : getD O i 0 ≡ e
+  pub met : toldAt W C (row + getD O i 0) + getD F i 0 ≡ k
 
-pub record MeetsOne (W C Y : List ℕ) (row k m e : ℕ) : Type 0 where
+pub record MeetsOne (W C O F : List ℕ) (row k m e : ℕ) : Type 0 where
   pub at : ℕ
   pub below : at < m
-  pub is : Meets W C Y row k at e
+  pub is : Meets W C O F row k at e
 
 -- what marking them asks
-pub record Marking (words size : ℕ) (W C Y : List ℕ) (len row o : ℕ) (L : List ℕ) : Type 0 where
-  pub ranged : Ranged size Y len
+pub record Marking (words size : ℕ) (W C O F : List ℕ) (len row o : ℕ) (L : List ℕ) : Type 0 where
+  pub ranged : Ranged size O F len
   pub weights : row + size ≤ length W
   pub counts : row + size ≤ length C
   pub enough : size ≤ 16 * words
@@ -49,16 +49,16 @@ pub record Opening (n p c : ℕ) (ls : List ℕ) (d : ℕ) (fs W C : List ℕ) (
   pub room : (wordsFor (n * p) + 5) * suc (suc k) ≤ length L
 
 -- what writing the record of a tunnel over x that begins at r, z asks, with its exits listed in O and F
-pub record Writing (n p : ℕ) (W C Y : List ℕ) (len : ℕ) (L : List ℕ) (o x r z : ℕ) : Type 0 where
+pub record Writing (n p : ℕ) (W C O F : List ℕ) (len : ℕ) (L : List ℕ) (o x r z : ℕ) : Type 0 where
   pub square : Square (n * p) W C
-  pub ranged : Ranged (n * p) Y len
+  pub ranged : Ranged (n * p) O F len
   pub hidden : x < 65536
   pub node : r < n
   pub protocol : z < p
   pub room : o + 5 + wordsFor (n * p) ≤ length L
 
 -- it is written at entry o: its numbers, and a mark for each exit over which u, q is met; the room before it is the same
-pub record Written (n p : ℕ) (W C Y : List ℕ) (len : ℕ) (L L′ : List ℕ) (o x r z u q : ℕ) : Type 0 where
+pub record Written (n p : ℕ) (W C O F : List ℕ) (len : ℕ) (L L′ : List ℕ) (o x r z u q : ℕ) : Type 0 where
   pub headed : Headed L′ o (place p r z) x u q
   pub same : (i : ℕ) → i < o → getD L′ i 0 ≡ getD L i 0
-  pub marks : (e : ℕ) → T (mark (wordsFor (n * p)) L′ o e) ↔ MeetsOne W C Y (place p r z * (n * p)) (cost u q) len e
+  pub marks : (e : ℕ) → T (mark (wordsFor (n * p)) L′ o e) ↔ MeetsOne W C O F (place p r z * (n * p)) (cost u q) len e

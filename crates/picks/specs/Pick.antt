@@ -37,14 +37,14 @@ pub record Any (P : ℕ → Trial → Type 0) (m : ℕ) (s : Trial) : Type 0 whe
 
 -- at node v with w, m left, a function of kind c, for x and y, that weighs f and leads to the protocol z, over link i:
 -- the step s, which passes if the way on from where it leads, over the exits listed in E and A, costs just what is then left
-pub record OverLink (n p : ℕ) (ls W C X : List ℕ) (len v w m c x y f z i : ℕ) (s : Trial) : Type 0 where
+pub record OverLink (n p : ℕ) (ls W C E A : List ℕ) (len v w m c x y f z i : ℕ) (s : Trial) : Type 0 where
   pub leaves : from ls i ≡ v
-  pub pays : finishing W C X len (place p (to ls i) z * (n * p)) + cost (f + toll ls i) 1 ≡ cost w m
+  pub pays : finishing W C E A len (place p (to ls i) z * (n * p)) + cost (f + toll ls i) 1 ≡ cost w m
   pub is : s ≡ trial (number ls i ∷ c ∷ x ∷ y ∷ []) (to ls i) z (w - (f + toll ls i)) (m - 1)
 
 -- what trying it asks
-pub record Trying (n p c : ℕ) (ls W C X : List ℕ) (len m f z : ℕ) : Type 0 where
-  pub crossing : Crossing n p c ls W C X len z
+pub record Trying (n p c : ℕ) (ls W C E A : List ℕ) (len m f z : ℕ) : Type 0 where
+  pub crossing : Crossing n p c ls W C E A len z
   pub link-number : (i : ℕ) → i < c → number ls i ≤ 65535
   pub link-weight : (i : ℕ) → i < c → toll ls i ≤ 1000000000
   pub fun-weight : f ≤ 1000000000
@@ -63,15 +63,15 @@ unfoldable pub serves : (fs : List ℕ) (v c x h j : ℕ) → Bool
 serves fs v c x h j = eqb (node fs j) v && (eqb (kind fs j) c && (eqb (topOf fs c j) x && (not (eqb c 2) || eqb (xOf fs j) h)))
 
 -- a step of function j that passes
-pub record ByFun (n p c : ℕ) (ls fs W C X : List ℕ) (len v x w m k h j : ℕ) (s : Trial) : Type 0 where
+pub record ByFun (n p c : ℕ) (ls fs W C E A : List ℕ) (len v x w m k h j : ℕ) (s : Trial) : Type 0 where
   pub serving : serves fs v k x h j ≡ true
-  pub over : Any (OverLink n p ls W C X len v w m k (xOf fs j) (yOf fs j) (fee fs j) (nextOf fs k j)) c s
+  pub over : Any (OverLink n p ls W C E A len v w m k (xOf fs j) (yOf fs j) (fee fs j) (nextOf fs k j)) c s
 
 -- what trying the functions asks
-pub record Scanning (n p c : ℕ) (ls : List ℕ) (d : ℕ) (fs W C X : List ℕ) (len m : ℕ) : Type 0 where
+pub record Scanning (n p c : ℕ) (ls : List ℕ) (d : ℕ) (fs W C E A : List ℕ) (len m : ℕ) : Type 0 where
   pub valid : Valid n p c ls d fs
   pub square : Square (n * p) W C
-  pub ranged : Ranged (n * p) X len
+  pub ranged : Ranged (n * p) E A len
   pub some-left : 0 < m
   pub few-left : m ≤ 4096
 
@@ -89,22 +89,22 @@ pub record ByLevel (n p c : ℕ) (ls : List ℕ) (d : ℕ) (fs W C L : List ℕ)
   pub E : List ℕ
   pub A : List ℕ
   pub len : ℕ
-  pub lists : Lists (Leaves (wordsFor (n * p)) (n * p) W C L o) X len
-  pub better : Better (Any (ByFun n p c ls fs W C X len v x w m k h) d) b r
+  pub lists : Lists (Leaves (wordsFor (n * p)) (n * p) W C L o) E A len
+  pub better : Better (Any (ByFun n p c ls fs W C E A len v x w m k h) d) b r
 
 -- the exits of a tunnel over x, opened from that level, are listed in O and F
-pub record Outward (n p c : ℕ) (ls : List ℕ) (d : ℕ) (fs W C L : List ℕ) (o x : ℕ) (Y : List ℕ) (len′ : ℕ) : Type 0 where
+pub record Outward (n p c : ℕ) (ls : List ℕ) (d : ℕ) (fs W C L : List ℕ) (o x : ℕ) (O F : List ℕ) (len′ : ℕ) : Type 0 where
   pub E : List ℕ
   pub A : List ℕ
   pub len : ℕ
-  pub lists : Lists (Leaves (wordsFor (n * p)) (n * p) W C L o) X len
-  pub gathered : Gathered (Unwraps n p c ls W C X len x fs) d Y len′
-  pub ranged : Ranged (n * p) Y len′
+  pub lists : Lists (Leaves (wordsFor (n * p)) (n * p) W C L o) E A len
+  pub gathered : Gathered (Unwraps n p c ls W C E A len x fs) d O F len′
+  pub ranged : Ranged (n * p) O F len′
 
 -- the better of b and the wraps that open a tunnel from it
 pub record ByTunnel (n p c : ℕ) (ls : List ℕ) (d : ℕ) (fs W C L : List ℕ) (o v x w m : ℕ) (b r : Trial) : Type 0 where
   pub O : List ℕ
   pub F : List ℕ
   pub len : ℕ
-  pub outward : Outward n p c ls d fs W C L o x Y len
-  pub better : Better (Any (ByFun n p c ls fs W C Y len v x w m 1 0) d) b r
+  pub outward : Outward n p c ls d fs W C L o x O F len
+  pub better : Better (Any (ByFun n p c ls fs W C O F len v x w m 1 0) d) b r

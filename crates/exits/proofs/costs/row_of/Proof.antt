@@ -1,4 +1,3 @@
-use borrow.Author.Needs.{needs}
 use Rattle.exits.proofs.Told.{row-le, square}
 use native.Mathlib.Omega.{arith}
 use mathlib.Core.Path.{refl}

@@ -1,75 +1,56 @@
-use mathlib.Core.Path.{_∙_, sym}
+use mathlib.Core.Path.{_∙_}
 use native.Mathlib.Omega.{arith}
 use borrow.Author.Tests.{not-true, not-false}
 use Rattle.exits.proofs.Places.{place-past, place-unmarked, place-beyond, place-listed}
 use borrow.Author.Needs.{needs}
 use Rattle.exits.proofs.levels.list_place.Statement.{statement}
 use Rattle.exits.proofs.levels.list_place.Tie as tie
-use Rattle.exits.proofs.levels.list_place.Reads as reads
-use Rattle.exits.proofs.levels.list_place.Lts as lts
-use Rattle.exits.proofs.costs.row_of.Reads as row-of-reads
-use Rattle.exits.proofs.costs.told_at.Reads as told-at-reads
-use Rattle.exits.proofs.levels.index.Reads as index-reads
-use Rattle.exits.proofs.levels.is_marked.Reads as is-marked-reads
-use Rattle.exits.proofs.levels.left_at.Reads as left-at-reads
-use Rattle.exits.proofs.lists.add_exit.Reads as add-exit-reads
-use Rattle.frames.proofs.entry.Reads as entry-reads
 
--- src/levels.rt:54:9
 returns : tie.Need-returns
-returns c = place-past (c  .before .before .before .before .before .pre .1 .1) (c .if1 .taken)
+returns c = place-past (c .before .before .before .before .before .before .pre .1 .1) (c .if1 .taken)
 
--- src/levels.rt:56:9
 is-marked-requires : tie.Need-is-marked-requires
 is-marked-requires c κs = search needs
 
--- src/levels.rt:57:9
 returns-2 : tie.Need-returns-2
-returns-2 c = place-unmarked (c  .before .before .before .before .before .before .before .pre .1 .1) _ (c  .before .is-marked .ensures) (not-true _ (c .if2 .taken))
+returns-2 c = place-unmarked (c .before .before .before .before .before .before .before .before .pre .1 .1) _ (c .before .is-marked .ensures) (not-true _ (c .if2 .taken))
 
--- src/levels.rt:59:58
 entry-requires : tie.Need-entry-requires
 entry-requires c κs = search needs
 
--- src/levels.rt:59:52
 index-requires : tie.Need-index-requires
 index-requires c κs = search needs
 
--- src/levels.rt:59:39
 row-of-requires : tie.Need-row-of-requires
 row-of-requires c κs = search needs
 
--- src/levels.rt:59:39
 add-told-at : tie.Need-add-told-at
 add-told-at c = search needs
 
--- src/levels.rt:59:9
 told-at-requires : tie.Need-told-at-requires
 told-at-requires c κs = search needs
 
--- src/levels.rt:60:9
 left-at-requires : tie.Need-left-at-requires
 left-at-requires c κs = search needs
 
--- src/levels.rt:62:9
 returns-3 : tie.Need-returns-3
-returns-3 c = place-beyond (c  .before .before .before .before .before .before .before .before .before .before .before .before .before .pre .1 .1) _ _ _ _ (c  .before .before .before .before .index .ensures ∙ c  .before .before .before .before .before .entry .ensures .0) (c  .before .before .before .row-of .ensures .0) (c  .before .before .told-at .ensures .0) (c  .before .left-at .ensures .0) (c .if3 .taken)
+returns-3 c = place-beyond (c .before .before .before .before .before .before .before .before .before .before .before .before .before .before .pre .1 .1) _ _ _ _ (c .before .before .before .before .index .ensures ∙ c .before .before .before .before .before .entry .ensures .0) (c .before .before .before .row-of .ensures .0) (c .before .before .told-at .ensures .0) (c .before .left-at .ensures .0) (c .if3 .taken)
 
--- src/levels.rt:64:5
 add-exit-requires : tie.Need-add-exit-requires
 add-exit-requires c κs = search needs
 
--- src/levels.rt:38:1
 same-length : tie.Need-same-length
 same-length c = search needs
 
--- src/levels.rt:38:1
+same-length-2 : tie.Need-same-length-2
+same-length-2 c = search needs
+
 returns-4 : tie.Need-returns-4
 returns-4 c =
-    let p = c  .before .before .before .before .before .before .before .before .before .before .before .before .before .before .before .before .before .pre in
-    let a = c  .before .before .add-exit .ensures in
-    place-listed (p .1 .1) _ _ _ _ _ _ (p .0) (omega arith) (p .1 .0) (c  .before .before .before .before .before .before .before .before .before .before .before .is-marked .ensures) (not-false _ (c  .before .before .before .before .before .before .before .before .before .before .if2 .left))
-    (c  .before .before .before .before .before .before .before .before .index .ensures ∙ c  .before .before .before .before .before .before .before .before .before .entry .ensures .0) (c  .before .before .before .before .before .before .before .row-of .ensures .0) (c  .before .before .before .before .before .before .told-at .ensures .0) (c  .before .before .before .before .before .left-at .ensures .0) (omega arith) (a .0) (a .1)
+    let p = c .before .before .before .before .before .before .before .before .before .before .before .before .before .before .before .before .before .before .before .before .before .pre in
+    let a = c .before .before .before .before .add-exit .ensures in
+    place-listed (p .1 .1) _ _ _ _ _ _ (p .0) (omega arith) (p .1 .0) (c .before .before .before .before .before .before .before .before .before .before .before .before .before .before .is-marked .ensures) (not-false _ (c .before .before .before .before .before .before .before .before .before .before .before .before .before .if2 .left))
+    (c .before .before .before .before .before .before .before .before .before .before .before .index .ensures ∙ c .before .before .before .before .before .before .before .before .before .before .before .before .entry .ensures .0) (c .before .before .before .before .before .before .before .before .before .before .row-of .ensures .0) (c .before .before .before .before .before .before .before .before .before .told-at .ensures .0) (c .before .before .before .before .before .before .before .before .left-at .ensures .0) (omega arith) (a .0) (a .1) (a .2)
 
 pub list-place-spec : {M : Type 1} → statement M
 list-place-spec =
@@ -87,4 +68,5 @@ list-place-spec =
     returns-3
     add-exit-requires
     same-length
+    same-length-2
     returns-4)

@@ -1,81 +1,66 @@
 use native.Mathlib.Omega.{arith}
+use mathlib.Core.Path.{_≡_, refl, _∙_}
 use Rattle.exits.proofs.Places.{still-reading, word-past}
 use Rattle.exits.proofs.Listing.{gathered-to}
 use Prim.Native.Nat.{_+_, _*_, _-_, _≤_}
-use mathlib.Core.Path.{_≡_, refl, _∙_}
 use lib.ListN.{length}
 use Rattle.exits.specs.Lists.{Gathered}
 use Rattle.exits.specs.Exits.{LeavesBy}
 use borrow.Author.Needs.{needs}
 use Rattle.exits.proofs.levels.list_word.Statement.{statement}
 use Rattle.exits.proofs.levels.list_word.Tie as tie
-use Rattle.exits.proofs.levels.list_word.Reads as reads
-use Rattle.exits.proofs.levels.list_word.Lts as lts
-use Rattle.exits.proofs.levels.list_place.Reads as list-place-reads
-use Rattle.frames.proofs.entry.Reads as entry-reads
 
 abbrev Inv-loop : tie.InvT-loop
-Inv-loop choice o words weight count size q exits₀ len m₀ e₀ exits m e =
-    (e ≤ 16 * (q + 1)) × Gathered (LeavesBy words size weight count choice o) e exits m × (length exits ≡ length exits₀)
+Inv-loop choice o words weight count size q exits₀ costs₀ len m₀ e₀ exits costs m e =
+    (e ≤ 16 * (q + 1)) × Gathered (LeavesBy words size weight count choice o) e exits costs m × (length exits ≡ length exits₀) × (length costs ≡ length costs₀)
 
 abbrev μ-loop : tie.MeasureT-loop
-μ-loop choice o words weight count size q exits₀ len m₀ e₀ exits m e = 16 * (q + 1) - e
+μ-loop choice o words weight count size q exits₀ costs₀ len m₀ e₀ exits costs m e = 16 * (q + 1) - e
 
--- src/levels.rt:82:22
 add-entry : tie.Need-add-entry Inv-loop μ-loop
 add-entry c = search needs
 
--- src/levels.rt:82:22
 add-entry-2 : tie.Need-add-entry-2 Inv-loop μ-loop
 add-entry-2 c = search needs
 
--- src/levels.rt:82:8
 entry-requires : tie.Need-entry-requires Inv-loop μ-loop
 entry-requires c κs = search needs
 
--- src/levels.rt:83:9
 returns : tie.Need-returns Inv-loop μ-loop
-returns c = word-past (c  .before .before .before .before .before .before .args .q) (c  .before .before .before .before .before .before .pre .1 .1) _ (c  .before .entry .ensures .0) (c .if1 .taken)
+returns c = word-past (c .before .before .before .before .before .before .before .args .q) (c .before .before .before .before .before .before .before .pre .1 .1) _ (c .before .entry .ensures .0) (c .if1 .taken)
 
--- src/levels.rt:86:17
 mul-e : tie.Need-mul-e Inv-loop μ-loop
 mul-e c = search needs
 
--- src/levels.rt:87:5
 loop-holds : tie.Need-loop-holds Inv-loop μ-loop
-loop-holds c = (omega arith, c  .before .before .before .before .before .before .pre .1 .1, refl)
+loop-holds c = (omega arith, c .before .before .before .before .before .before .before .pre .1 .1, refl, refl)
 
--- src/levels.rt:87:21
 add-loop : tie.Need-add-loop Inv-loop μ-loop
 add-loop c = search needs
 
--- src/levels.rt:87:15
 mul-loop : tie.Need-mul-loop Inv-loop μ-loop
 mul-loop c = search needs
 
--- src/levels.rt:88:9
 list-place-requires : tie.Need-list-place-requires Inv-loop μ-loop
-list-place-requires c κs = let l = c  .before .before .loop in let p = c  .before .before .before .before .before .before .before .before .before .pre in (still-reading (p .0) (l .inv .2), (omega arith, l .inv .1))
+list-place-requires c κs = let l = c .before .before .before .loop in let p = c .before .before .before .before .before .before .before .before .before .before .before .pre in (still-reading (p .0) (l .inv .2) (l .inv .3), (omega arith, l .inv .1))
 
--- src/levels.rt:89:9
 add-e : tie.Need-add-e Inv-loop μ-loop
 add-e c = search needs
 
--- src/levels.rt:87:5
 loop-less : tie.Need-loop-less Inv-loop μ-loop
 loop-less c = search needs
 
--- src/levels.rt:87:5
 loop-again : tie.Need-loop-again Inv-loop μ-loop
-loop-again c = let l = c  .before .before .before .before .before .loop in let s = c  .before .before .list-place in (omega arith, s .ensures, s .kept .1 .1 .1 .1 .1 .1 .1 .0 ∙ l .inv .2)
+loop-again c = let l = c .before .before .before .before .before .before .before .before .loop in let s = c .before .before .before .before .list-place in (omega arith, s .ensures, s .kept .1 .1 .1 .1 .1 .1 .1 .0 ∙ l .inv .2, s .kept .1 .1 .1 .1 .1 .1 .1 .1 .0 ∙ l .inv .3)
 
--- src/levels.rt:67:1
 same-length : tie.Need-same-length Inv-loop μ-loop
 same-length c = search needs
 
--- src/levels.rt:67:1
+same-length-2 : tie.Need-same-length-2 Inv-loop μ-loop
+same-length-2 c = search needs
+
 returns-2 : tie.Need-returns-2 Inv-loop μ-loop
-returns-2 c = let l = c  .before .loop in gathered-to (l .e) _ (l .inv .0) (omega arith) (l .inv .1)
+returns-2 c = let l = c .before .loop in gathered-to (l .e) _ (l .inv .0) (omega arith) (l .inv .1)
 
 pub list-word-spec : {M : Type 1} → statement M
 list-word-spec =
@@ -96,4 +81,5 @@ list-word-spec =
     loop-less
     loop-again
     same-length
+    same-length-2
     returns-2)

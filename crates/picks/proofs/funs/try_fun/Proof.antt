@@ -11,7 +11,7 @@ suits-requires c κs = search needs
 returns : tie.Need-returns
 returns c =
     let a = c .before .before .before .before .before .before .before .before .args in
-    fun-passed (a .n) (a .p) (a .c) (a .links .now) (a .funs .now) (a .weight .now) (a .count .now) (a .exits .now) (a .len) (a .at .node) (a .at .protocol) (a .at .weight) (a .at .left) (a .kind) (a .hidden) (a .j)
+    fun-passed (a .n) (a .p) (a .c) (a .links .now) (a .funs .now) (a .weight .now) (a .count .now) (a .exits .now) (a .costs .now) (a .len) (a .at .node) (a .at .protocol) (a .at .weight) (a .at .left) (a .kind) (a .hidden) (a .j)
     _ (c .before .suits .ensures) (not-true _ (c .if1 .taken))
 
 use-of-requires : tie.Need-use-of-requires
@@ -28,7 +28,7 @@ returns-2 : tie.Need-returns-2
 returns-2 c =
     let a = c .before .before .before .before .before .before .before .before .before .before .args in
     let u = c .before .use-of .ensures in
-    fun-tried (a .n) (a .p) (a .c) (a .links .now) (a .funs .now) (a .weight .now) (a .count .now) (a .exits .now) (a .len) (a .at .node) (a .at .protocol) (a .at .weight) (a .at .left) (a .kind) (a .hidden) (a .j)
+    fun-tried (a .n) (a .p) (a .c) (a .links .now) (a .funs .now) (a .weight .now) (a .count .now) (a .exits .now) (a .costs .now) (a .len) (a .at .node) (a .at .protocol) (a .at .weight) (a .at .left) (a .kind) (a .hidden) (a .j)
     _ _ _ _ _ _ (c .before .before .before .suits .ensures) (not-false _ (c .before .before .if1 .left)) (u .0) (u .1) (u .2) (u .3) (u .4) (c .try-links .ensures)
 
 pub try-fun-spec : {M : Type 1} → statement M

@@ -7,11 +7,11 @@ use Rattle.picks.proofs.funs.try_funs.Statement.{statement}
 use Rattle.picks.proofs.funs.try_funs.Tie as tie
 
 abbrev Inv-loop : tie.InvT-loop
-Inv-loop links c funs d n p weight count exits len at kind hidden found₀ j₀ found j =
-    (j ≤ d) × Better (Any (ByFun n p c links funs weight count exits len (at .node) (at .protocol) (at .weight) (at .left) kind hidden) j) (trial (found₀ .key) (found₀ .to .node) (found₀ .to .protocol) (found₀ .to .weight) (found₀ .to .left)) (trial (found .key) (found .to .node) (found .to .protocol) (found .to .weight) (found .to .left))
+Inv-loop links c funs d n p weight count exits costs len at kind hidden found₀ j₀ found j =
+    (j ≤ d) × Better (Any (ByFun n p c links funs weight count exits costs len (at .node) (at .protocol) (at .weight) (at .left) kind hidden) j) (trial (found₀ .key) (found₀ .to .node) (found₀ .to .protocol) (found₀ .to .weight) (found₀ .to .left)) (trial (found .key) (found .to .node) (found .to .protocol) (found .to .weight) (found .to .left))
 
 abbrev μ-loop : tie.MeasureT-loop
-μ-loop links c funs d n p weight count exits len at kind hidden found₀ j₀ found j = d - j
+μ-loop links c funs d n p weight count exits costs len at kind hidden found₀ j₀ found j = d - j
 
 loop-holds : tie.Need-loop-holds Inv-loop μ-loop
 loop-holds c = (omega arith, any-none _)

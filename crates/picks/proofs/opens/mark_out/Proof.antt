@@ -10,7 +10,7 @@ exit-at-requires : tie.Need-exit-at-requires
 exit-at-requires c κs = search needs
 
 add-mark-requires : tie.Need-add-mark-requires
-add-mark-requires c κs = let s = c .before .before .before .before .before .before .before .before .before in let a = s .args in exit-below (a .weight .now) (a .count .now) (a .outs .now) (a .row) (a .left) (a .i) (s .pre .1) (s .pre .0) _ (c .exit-at .ensures)
+add-mark-requires c κs = let s = c .before .before .before .before .before .before .before .before .before in let a = s .args in exit-below (a .weight .now) (a .count .now) (a .outs .now) (a .fees .now) (a .row) (a .left) (a .i) (s .pre .1) (s .pre .0) _ (c .exit-at .ensures)
 
 same-length : tie.Need-same-length
 same-length c = search needs
@@ -19,13 +19,13 @@ returns : tie.Need-returns
 returns c =
     let s = c .before .before .before .before .before .before .before .before .before .before .before .before in
     let a = s .args in
-    exit-marked (a .weight .now) (a .count .now) (a .outs .now) (a .row) (a .left) (a .i) (s .pre .1) (s .pre .0) _ _ (c .before .before .before .before .before .before .over-exit .ensures) (c .before .before .before .before .before .if1 .taken) (c .before .before .before .exit-at .ensures) (c .before .before .add-mark .ensures)
+    exit-marked (a .weight .now) (a .count .now) (a .outs .now) (a .fees .now) (a .row) (a .left) (a .i) (s .pre .1) (s .pre .0) _ _ (c .before .before .before .before .before .before .over-exit .ensures) (c .before .before .before .before .before .if1 .taken) (c .before .before .before .exit-at .ensures) (c .before .before .add-mark .ensures)
 
 returns-2 : tie.Need-returns-2
 returns-2 c =
     let s = c .before .before .before .before .before .before .before in
     let a = s .args in
-    exit-left (a .weight .now) (a .count .now) (a .outs .now) (a .row) (a .left) (a .i) _ (c .before .over-exit .ensures) (c .if1 .left)
+    exit-left (a .weight .now) (a .count .now) (a .outs .now) (a .fees .now) (a .row) (a .left) (a .i) _ (c .before .over-exit .ensures) (c .if1 .left)
 
 pub mark-out-spec : {M : Type 1} → statement M
 mark-out-spec =

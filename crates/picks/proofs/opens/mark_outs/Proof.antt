@@ -10,7 +10,7 @@ use Rattle.picks.proofs.opens.mark_outs.Tie as tie
 
 abbrev Inv-loop : tie.InvT-loop
 Inv-loop weight count outs fees len size words row left choice₀ o i₀ choice i =
-    (i ≤ len) × Adds words o (MeetsOne weight count outs row left i) choice₀ choice × (length choice ≡ length choice₀)
+    (i ≤ len) × Adds words o (MeetsOne weight count outs fees row left i) choice₀ choice × (length choice ≡ length choice₀)
 
 abbrev μ-loop : tie.MeasureT-loop
 μ-loop weight count outs fees len size words row left choice₀ o i₀ choice i = len - i

@@ -11,7 +11,7 @@ link-from-requires c κs = search needs
 returns : tie.Need-returns
 returns c =
     let a = c .before .before .before .before .before .before .before .before .args in
-    link-elsewhere (a .n) (a .p) (a .links .now) (a .weight .now) (a .count .now) (a .exits .now) (a .len) (a .at .node) (a .at .weight) (a .at .left) (a .f .kind) (a .f .x) (a .f .y) (a .f .weight) (a .f .onto) (a .i)
+    link-elsewhere (a .n) (a .p) (a .links .now) (a .weight .now) (a .count .now) (a .exits .now) (a .costs .now) (a .len) (a .at .node) (a .at .weight) (a .at .left) (a .f .kind) (a .f .x) (a .f .y) (a .f .weight) (a .f .onto) (a .i)
     _ (c .before .before .link-from .ensures) (c .if1 .taken)
 
 key-over-requires : tie.Need-key-over-requires
@@ -23,7 +23,7 @@ key-before-requires c κs = search needs
 returns-2 : tie.Need-returns-2
 returns-2 c =
     let a = c .before .before .before .before .before .before .before .before .before .before .before .before .args in
-    link-behind (a .n) (a .p) (a .links .now) (a .weight .now) (a .count .now) (a .exits .now) (a .len) (a .at .node) (a .at .weight) (a .at .left) (a .f .kind) (a .f .x) (a .f .y) (a .f .weight) (a .f .onto) (a .i)
+    link-behind (a .n) (a .p) (a .links .now) (a .weight .now) (a .count .now) (a .exits .now) (a .costs .now) (a .len) (a .at .node) (a .at .weight) (a .at .left) (a .f .kind) (a .f .x) (a .f .y) (a .f .weight) (a .f .onto) (a .i)
     _ _ (c .before .before .before .key-over .ensures) (c .before .key-before .ensures) (not-true _ (c .if2 .taken))
 
 way-over-requires : tie.Need-way-over-requires
@@ -35,7 +35,7 @@ cost-of-requires c κs = search needs
 returns-3 : tie.Need-returns-3
 returns-3 c =
     let a = c .before .before .before .before .before .before .before .before .before .before .before .before .before .before .before .args in
-    link-fails (a .n) (a .p) (a .links .now) (a .weight .now) (a .count .now) (a .exits .now) (a .len) (a .at .node) (a .at .weight) (a .at .left) (a .f .kind) (a .f .x) (a .f .y) (a .f .weight) (a .f .onto) (a .i)
+    link-fails (a .n) (a .p) (a .links .now) (a .weight .now) (a .count .now) (a .exits .now) (a .costs .now) (a .len) (a .at .node) (a .at .weight) (a .at .left) (a .f .kind) (a .f .x) (a .f .y) (a .f .weight) (a .f .onto) (a .i)
     _ _ (c .before .before .way-over .ensures) (c .before .cost-of .ensures .0) (c .if3 .taken)
 
 link-to-requires : tie.Need-link-to-requires
@@ -56,7 +56,7 @@ sub-t25 c = omega (arith, c .before .before .before .before .before .before .bef
 returns-4 : tie.Need-returns-4
 returns-4 c =
     let a = c .before .before .before .before .before .before .before .before .before .before .before .before .before .before .before .before .before .before .before .before .args in
-    link-passes (a .n) (a .p) (a .links .now) (a .weight .now) (a .count .now) (a .exits .now) (a .len) (a .at .node) (a .at .weight) (a .at .left) (a .f .kind) (a .f .x) (a .f .y) (a .f .weight) (a .f .onto) (a .i)
+    link-passes (a .n) (a .p) (a .links .now) (a .weight .now) (a .count .now) (a .exits .now) (a .costs .now) (a .len) (a .at .node) (a .at .weight) (a .at .left) (a .f .kind) (a .f .x) (a .f .y) (a .f .weight) (a .f .onto) (a .i)
     _ _ _ _ _ _ _ (c .before .before .before .before .before .before .before .before .before .before .before .before .before .before .link-from .ensures) (c .before .before .before .before .before .before .before .before .before .before .before .before .if1 .left) (c .before .before .before .before .before .before .before .before .before .before .before .key-over .ensures) (c .before .before .before .before .before .before .before .before .before .key-before .ensures) (not-false _ (c .before .before .before .before .before .before .before .before .if2 .left))
     (c .before .before .before .before .before .before .before .way-over .ensures) (c .before .before .before .before .before .before .cost-of .ensures .0) (c .before .before .before .before .before .if3 .left) (c .before .before .before .before .link-to .ensures) (c .before .before .before .link-weight .ensures)
 

@@ -7,11 +7,11 @@ use Rattle.picks.proofs.steps.try_links.Statement.{statement}
 use Rattle.picks.proofs.steps.try_links.Tie as tie
 
 abbrev Inv-loop : tie.InvT-loop
-Inv-loop links c n p weight count exits len at f found₀ i₀ found i =
-    (i ≤ c) × Better (Any (OverLink n p links weight count exits len (at .node) (at .weight) (at .left) (f .kind) (f .x) (f .y) (f .weight) (f .onto)) i) (trial (found₀ .key) (found₀ .to .node) (found₀ .to .protocol) (found₀ .to .weight) (found₀ .to .left)) (trial (found .key) (found .to .node) (found .to .protocol) (found .to .weight) (found .to .left))
+Inv-loop links c n p weight count exits costs len at f found₀ i₀ found i =
+    (i ≤ c) × Better (Any (OverLink n p links weight count exits costs len (at .node) (at .weight) (at .left) (f .kind) (f .x) (f .y) (f .weight) (f .onto)) i) (trial (found₀ .key) (found₀ .to .node) (found₀ .to .protocol) (found₀ .to .weight) (found₀ .to .left)) (trial (found .key) (found .to .node) (found .to .protocol) (found .to .weight) (found .to .left))
 
 abbrev μ-loop : tie.MeasureT-loop
-μ-loop links c n p weight count exits len at f found₀ i₀ found i = c - i
+μ-loop links c n p weight count exits costs len at f found₀ i₀ found i = c - i
 
 loop-holds : tie.Need-loop-holds Inv-loop μ-loop
 loop-holds c = (omega arith, any-none _)

@@ -37,7 +37,7 @@ add-result c = search needs
 returns : tie.Need-returns
 returns c =
     let a = c .before .before .before .before .before .before .before .before .before .before .before .before .args in
-    way-is (a .n) (a .p) (a .links .now) (a .weight .now) (a .count .now) (a .exits .now) (a .len) (a .f .weight) (a .f .onto) (a .i) _ _ _ _ _ _
+    way-is (a .n) (a .p) (a .links .now) (a .weight .now) (a .count .now) (a .exits .now) (a .costs .now) (a .len) (a .f .weight) (a .f .onto) (a .i) _ _ _ _ _ _
     (c .before .before .before .before .before .before .link-to .ensures) (c .before .before .before .before .before .number .ensures .0) (c .before .before .before .before .row-of .ensures .0) (c .before .before .before .link-weight .ensures) (c .before .cost-of .ensures .0) (c .finish .ensures .0)
 
 pub way-over-spec : {M : Type 1} → statement M
