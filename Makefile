@@ -1,5 +1,5 @@
 # Two commands do everything: `make route` runs the route program on a sample network, `make test` passes the tests.
-.PHONY: route test compare clean
+.PHONY: route test compare bench clean
 
 # The sample: document 01's network and enquiries.
 route:
@@ -25,6 +25,11 @@ compare:
 	rt check route normalise
 	second/build
 	target/second/driver $(CASES) $(SEED) target/bin/route target/bin/normalise
+
+# A table of times beside plain C; nothing is timed against a bar.
+bench:
+	rt staticlib mpakirovu
+	bench/run
 
 clean:
 	rm -rf target
