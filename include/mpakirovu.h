@@ -103,8 +103,8 @@ extern "C" {
 #define MPAKIROVU_LONGEST 4096u           /* steps of a route that is handed out */
 
 /* The stack that a call may need, in bytes: a thread that calls the library has to have it free. Each
-   tunnel that is open at once takes about 11 KB, and a route with 2,046 of them overflowed 8 MiB. It
-   is no part of what is proved. */
+   tunnel that is open at once takes about 10 KB: 2,025 of them overflow 16 MiB and run in 24 MiB. It is
+   no part of what is proved. */
 #define MPAKIROVU_STACK_BYTES 33554432u
 
 /* 5. SIZES OF ROOMS */
