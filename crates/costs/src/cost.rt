@@ -1,7 +1,7 @@
 // A cost: weight × 65,536 + steps, in one number; from FAR on there is no route.
 ghost use mathlib.Core.Path.{_≡_};
 ghost use Prim.Native.Nat.{_+_, _*_, _<_, _≤_, min};
-ghost use lib.ListN.{length};
+ghost use lib.ListN.{length, getD};
 ghost use Rattle.paper.specs.Limits.{long-mark};
 ghost use Rattle.costs.specs.Cells.{Spells};
 ghost use Rattle.costs.specs.Costs.{far, worth, costOf, costAt, lowerTo};
@@ -52,6 +52,13 @@ fn least(a: u64, b: u64) -> u64
     ensures { λ r. ⌜ r ≡ min a b ⌝ }
 {
     if a < b { a } else { b }
+}
+
+pub fn cost_there(costs: &[u64], i: usize) -> u64
+    requires { ⌜ i < length (now costs) ⌝ }
+    ensures { λ k. ⌜ k ≡ getD (now (costs .entry)) i 0 ⌝ }
+{
+    costs[i]
 }
 
 pub fn lower_to(costs: &mut [u64], i: usize, k: u64)
