@@ -1,8 +1,9 @@
 // A cost: weight × 65,536 + steps, in one number; from FAR on there is no route.
 ghost use mathlib.Core.Path.{_≡_};
 ghost use Prim.Native.Nat.{_+_, _*_, _<_, _≤_, min};
+ghost use lib.Dec.{eqb};
 ghost use lib.ListN.{length, getD};
-ghost use Rattle.paper.specs.Limits.{long-mark};
+ghost use Rattle.paper.specs.Limits.{never-mark, long-mark};
 ghost use Rattle.costs.specs.Cells.{Spells};
 ghost use Rattle.costs.specs.Costs.{far, worth, costOf, costAt, lowerTo};
 use crate::entry::Entry;
@@ -39,6 +40,14 @@ pub fn cost_of(weight: u32, count: u16) -> u64
         return FAR;
     }
     step_cost(weight, count)
+}
+
+// Whether entry i says that there is no route.
+pub fn is_never(weight: &[u32], i: usize) -> bool
+    requires { ⌜ i < length (now weight) ⌝ }
+    ensures { λ r. ⌜ r ≡ eqb (getD (now (weight .entry)) i 0) never-mark ⌝ }
+{
+    weight[i] == NEVER_MARK
 }
 
 pub fn cost_at(weight: &[u32], count: &[u16], i: usize) -> u64

@@ -4,18 +4,28 @@ use mathlib.Core.Path.{_≡_, refl}
 use mathlib.Core.Bool.{Bool, true, false, cond, not, _&&_, _||_}
 use mathlib.Core.List.{List}
 use borrow.Author.Tests.{le-leb, lt-leb}
-use lib.Dec.{ltb}
+use lib.Dec.{eqb, ltb}
 use lib.ListN.{length, getD}
+use Rattle.paper.specs.Limits.{never-mark}
 use Rattle.costs.specs.Costs.{far, worth, costAt, lowerTo}
 use Rattle.costs.specs.Cells.{Spells, less}
-use Rattle.sweeps.specs.Row.{composed, onward, idle, going}
+use Rattle.sweeps.specs.Row.{carried, composed, onward, idle, going}
 use Rattle.sweeps.proofs.Loops.{turn}
 use Rattle.spread.specs.Asked.{Spreading, Going}
 
-pub composing : (W C : List ℕ) (base c q k : ℕ) (y₀ y y′ : List ℕ) → k ≡ costAt W C (base + q) → y ≡ composed W C q base c y₀ → y′ ≡ lowerTo q (c + k) y
-    → y′ ≡ composed W C (q + 1) base c y₀
+-- an entry that says that there is no route, and one that says what it takes
+module _ (W C : List ℕ) (c i q : ℕ) (y : List ℕ) (b : Bool) (t : b ≡ eqb (getD W i 0) never-mark) where
+  pub not-carried : b ≡ true → y ≡ carried W C c i q y
+  unfolding carried
+  not-carried h = rw (← t, h)
+
+  pub carried-on : (k : ℕ) (y′ : List ℕ) → b ≡ false → k ≡ costAt W C i → y′ ≡ lowerTo q (c + k) y → y′ ≡ carried W C c i q y
+  unfolding carried
+  carried-on k y′ h e g = rw (← t, h, ← e) g
+
+pub composing : (W C : List ℕ) (base c q : ℕ) (y₀ y y′ : List ℕ) → y ≡ composed W C q base c y₀ → y′ ≡ carried W C c (base + q) q y → y′ ≡ composed W C (q + 1) base c y₀
 unfolding composed
-composing W C base c q k y₀ y y′ e h g = turn _ q y₀ y y′ h (rw (← e) g)
+composing W C base c q y₀ y y′ h g = turn _ q y₀ y y′ h g
 
 -- where nothing gets there, and where something does
 pub not-on : (W C : List ℕ) (size : ℕ) (a : List ℕ) (r k : ℕ) (y : List ℕ) → k ≡ getD a r 0 → far ≤ k → y ≡ onward W C size a r y

@@ -3,12 +3,13 @@ ghost use mathlib.Core.Path.{_≡_};
 ghost use Prim.Native.Nat.{_+_, _*_, _<_, _≤_};
 ghost use lib.ListN.{length, getD};
 ghost use Rattle.costs.specs.Costs.{far};
-ghost use Rattle.sweeps.specs.Row.{composed, onward, onwards, idle, going, goings};
+ghost use Rattle.sweeps.specs.Row.{carried, composed, onward, onwards, idle, going, goings};
 ghost use Rattle.spread.specs.Asked.{Spreading, Going};
 use costs::cost::FAR;
 use costs::cost::cost_at;
 use costs::cost::cost_there;
 use costs::cost::entry_of;
+use costs::cost::is_never;
 use costs::cost::lower_to;
 use costs::entry::lighter;
 use costs::entry::read;
@@ -21,6 +22,17 @@ pub fn begin(size: usize, r: usize) -> usize
     r * size
 }
 
+// At the cost c, and then by entry i to place q. Passing over an entry that says `never` also keeps the loop from being vectorised, which is slower for u64.
+fn carry(weight: &[u32], count: &[u16], i: usize, c: u64, q: usize, y: &mut [u64])
+    requires { ⌜ (i < length (now weight)) × (i < length (now count)) × (q < length (now y)) × (c ≤ far) ⌝ }
+    ensures { λ _. ⌜ now (y .exit) ≡ carried (now (weight .entry)) (now (count .entry)) c i q (now (y .entry)) ⌝ }
+{
+    if is_never(weight, i) {
+        return;
+    }
+    lower_to(y, q, c + cost_at(weight, count, i));
+}
+
 // At the cost c, and then by the row that begins at `base`.
 fn compose(weight: &[u32], count: &[u16], base: usize, size: usize, c: u64, y: &mut [u64])
     requires { ⌜ (base + size ≤ length (now weight)) × (base + size ≤ length (now count)) × (size ≤ length (now y)) × (c ≤ far) ⌝ }
@@ -28,7 +40,7 @@ fn compose(weight: &[u32], count: &[u16], base: usize, size: usize, c: u64, y: &
 {
     let mut q = 0;
     while q < size {
-        lower_to(y, q, c + cost_at(weight, count, base + q));
+        carry(weight, count, base + q, c, q, y);
         q += 1;
     }
 }

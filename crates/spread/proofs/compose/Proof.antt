@@ -19,17 +19,11 @@ loop-holds : tie.Need-loop-holds Inv-loop μ-loop
 unfolding composed upto
 loop-holds c = search needs
 
-add-cost-at : tie.Need-add-cost-at Inv-loop μ-loop
-add-cost-at c = search needs
+add-carry : tie.Need-add-carry Inv-loop μ-loop
+add-carry c = search needs
 
-cost-at-requires : tie.Need-cost-at-requires Inv-loop μ-loop
-cost-at-requires c κs = search needs
-
-add-lower-to : tie.Need-add-lower-to Inv-loop μ-loop
-add-lower-to c = search needs
-
-lower-to-requires : tie.Need-lower-to-requires Inv-loop μ-loop
-lower-to-requires c κs = search needs
+carry-requires : tie.Need-carry-requires Inv-loop μ-loop
+carry-requires c κs = search needs
 
 add-q : tie.Need-add-q Inv-loop μ-loop
 add-q c = search needs
@@ -38,7 +32,7 @@ loop-less : tie.Need-loop-less Inv-loop μ-loop
 loop-less c = search needs
 
 loop-again : tie.Need-loop-again Inv-loop μ-loop
-loop-again c = (search needs, search needs, composing _ _ _ _ _ _ _ _ _ (c .before .before .before .cost-at .ensures .0) (c .before .before .before .before .before .before .loop .inv .2) (c .before .before .lower-to .ensures))
+loop-again c = (search needs, search needs, composing _ _ _ _ _ _ _ _ (c .before .before .before .before .before .loop .inv .2) (c .before .before .carry .ensures))
 
 same-length : tie.Need-same-length Inv-loop μ-loop
 same-length c = search needs
@@ -55,10 +49,8 @@ compose-spec =
     Inv-loop
     μ-loop
     loop-holds
-    add-cost-at
-    cost-at-requires
-    add-lower-to
-    lower-to-requires
+    add-carry
+    carry-requires
     add-q
     loop-less
     loop-again
