@@ -7,7 +7,7 @@ use lib.ListN.{length, getD}
 use Rattle.records.specs.Columns.{node, yOf}
 use Rattle.frames.specs.Frames.{wordsFor}
 use Rattle.exits.specs.Lists.{Lists, Gathered, Ranged}
-use Rattle.exits.specs.Exits.{Leaves, Unwraps, Crossing, Reading}
+use Rattle.exits.specs.Exits.{Leaves, Unwrapping, Unwraps, Crossing, Reading}
 use Rattle.exits.proofs.Told.{place-lt}
 use Rattle.exits.proofs.Places.{level-ranged}
 use Rattle.picks.specs.Pick.{Trial, Better, Any, ByFun, Looking, Scanning, ByLevel, Outward}
@@ -26,9 +26,9 @@ module _ {n p c : ℕ} {ls : List ℕ} {d : ℕ} {fs W C L : List ℕ} {o m : �
   looked-scanning r = record { valid = k .valid; square = k .square; ranged = r; some-left = k .some-left; few-left = k .few-left }
 
   pub looked-crossing : {E A : List ℕ} {len : ℕ} (x : ℕ) → x < p → Ranged (n * p) E A len → Crossing n p c ls W C E A len x
-  looked-crossing x h r = record { square = k .square; few = k .valid .few-links; link-room = k .valid .link-room; link-to = k .valid .link-to; protocol = h; ranged = r }
+  looked-crossing x h r = record { square = k .square; few = k .valid .few-links; link-room = k .valid .link-room; link-from = k .valid .link-from; link-to = k .valid .link-to; protocol = h; ranged = r }
 
-  pub tunnel-ranged : {E A O F : List ℕ} {len x len′ : ℕ} → 1024 ≤ length O → 1024 ≤ length F → Gathered (Unwraps n p c ls W C E A len x fs) d O F len′ → Ranged (n * p) O F len′
+  pub tunnel-ranged : {x : ℕ} {land : ℕ → ℕ} {O F : List ℕ} {len′ : ℕ} → 1024 ≤ length O → 1024 ≤ length F → Gathered (Unwrapping p x land fs) d O F len′ → Ranged (n * p) O F len′
   tunnel-ranged hO hF g = record {
     places = omega (arith, g .few, k .valid .few-funs);
     costs = omega (arith, g .few, k .valid .few-funs);
