@@ -10,6 +10,7 @@ use crate::steps::Spot;
 use crate::steps::Step;
 use exits::levels::list_level;
 use exits::tunnels::list_tunnel;
+use scan::next_fun;
 
 // The words that hold a bit for each place.
 pub fn words_for(size: usize) -> usize
@@ -142,6 +143,9 @@ pub fn look_tunnel(
     requires { ⌜ (at .protocol < p) × Looking n p c (now links) d (now funs) (now weight) (now count) (now choice) o (at .left) × Ample (now exits) (now costs) × Ample (now outs) (now fees) ⌝ }
     ensures { λ r. ⌜ ByTunnel n p c (now (links .entry)) d (now (funs .entry)) (now (weight .entry)) (now (count .entry)) (now (choice .entry)) o (at .node) (at .protocol) (at .weight) (at .left) (trial (best .key) (best .to .node) (best .to .protocol) (best .to .weight) (best .to .left)) (trial (r .key) (r .to .node) (r .to .protocol) (r .to .weight) (r .to .left)) ⌝ }
 {
+    if next_fun(funs, d, 0, at.node, 1, at.protocol) == d {
+        return best;
+    }
     let len = list_outward(
         links,
         c,
