@@ -5,6 +5,7 @@ mod brute;
 mod case;
 mod damage;
 mod enquiries;
+mod examples;
 mod generate;
 mod library;
 mod process;
