@@ -1,4 +1,4 @@
-//! Document 01's own networks, shown as it shows them: the listing and the marked examples.
+//! Document 01's own networks, shown as it shows them: the listing, the marked examples, and the files that are run only.
 
 /// A text with its tabs shown as spaces.
 pub fn spelled(text: &str) -> Vec<u8> {
@@ -102,3 +102,23 @@ pub const EXAMPLES: [Example; 11] = [
     (NETWORK_10, [0, 0, 2, 0], 0, 4_000_000_000, 2, &[1, 2]),
     (NETWORK_10, [0, 0, 3, 0], 9, 0, 0, &[]),
 ];
+
+/// Files that document 01 has run only, and others at the limits, each with the number and line it is refused with.
+pub fn run_only() -> Vec<(String, Option<(u32, u32)>)> {
+    let mut full = String::from("net 1 1\n");
+    for number in 0..1_024 {
+        full += &format!("link {number} 0 0 0\n");
+    }
+    vec![
+        ("net 64 16\n".to_string(), None),
+        ("net 205 5\n".to_string(), Some((3, 1))),
+        ("net 05 1\n".to_string(), Some((2, 1))),
+        ("net 1 1\nlink 1 0 0 1000000001\n".to_string(), Some((3, 2))),
+        (full.clone(), None),
+        (format!("{full}link 5 0 0 0\n"), Some((4, 1_026))),
+        (format!("{full}link 1024 0 0 0\n"), Some((5, 1_026))),
+        (String::new(), Some((2, 1))),
+        ("\n".repeat(65_536), Some((2, 1))),
+        ("\n".repeat(65_537), Some((1, 0))),
+    ]
+}

@@ -2,7 +2,7 @@
 //! search over real stacks. Deterministic; every failure is printed, and any makes the whole fail.
 
 use crate::brute;
-use crate::examples::{spelled, EXAMPLES, LISTED_INPUT, LISTED_OUTPUT, NETWORK_A};
+use crate::examples::{run_only, spelled, EXAMPLES, LISTED_INPUT, LISTED_OUTPUT, NETWORK_A};
 use crate::generate;
 use crate::random::Random;
 use crate::reference::{Enquiry, Network, Outcome, Reference, Rooms, COUNT_OVER, STEP_LIMIT, WEIGHT_LIMIT};
@@ -37,7 +37,7 @@ pub fn run() -> bool {
     examples(&mut checks);
     listing(&mut checks);
     rooms_of_the_listing(&mut checks);
-    run_only(&mut checks);
+    files_that_are_run(&mut checks);
     normal_order(&mut checks);
     tried_networks(&mut checks);
     tried_families(&mut checks);
@@ -120,29 +120,10 @@ fn rooms_of_the_listing(checks: &mut Checks) {
     }
 }
 
-fn run_only(checks: &mut Checks) {
-    let mut full = String::from("net 1 1\n");
-    for number in 0..1_024 {
-        full += &format!("link {number} 0 0 0\n");
-    }
-    let cases = [
-        ("net 64 16\n".to_string(), None),
-        ("net 205 5\n".to_string(), Some((3, 1))),
-        ("net 05 1\n".to_string(), Some((2, 1))),
-        ("net 1 1\nlink 1 0 0 1000000001\n".to_string(), Some((3, 2))),
-        (full.clone(), None),
-        (format!("{full}link 5 0 0 0\n"), Some((4, 1_026))),
-        (format!("{full}link 1024 0 0 0\n"), Some((5, 1_026))),
-        (String::new(), Some((2, 1))),
-    ];
-    for (text, expected) in cases {
+fn files_that_are_run(checks: &mut Checks) {
+    for (text, expected) in run_only() {
         let found = Reference::of(&spelled(&text)).network().err().map(|refusal| (refusal.number, refusal.line));
         checks.check(found == expected, || format!("{:.40}: {found:?}, expected {expected:?}", text));
-    }
-    let sizes = [(65_536, (2, 1)), (65_537, (1, 0))];
-    for (size, expected) in sizes {
-        let found = Reference::of(&vec![b'\n'; size]).network().err().map(|refusal| (refusal.number, refusal.line));
-        checks.check(found == Some(expected), || format!("a file of {size} bytes: {found:?}"));
     }
 }
 
