@@ -38,7 +38,7 @@ enum rung { CONVS, TUNNELS, ALL_KINDS };
 void ladder(network *net, size_t n, uint32_t parallel, enum rung rung);
 
 /* A ring one way with chords, and random functions, of which so many in 16 are conv; all weights are 0. Routes are long where the chords are just too few
-   for short ones. */
+   for short ones; the seeds in use are the longest of some that were tried, not typical ones. */
 void maze(network *net, size_t n, size_t p, size_t links, uint32_t convs, uint64_t seed);
 
 /* The same sweeps as the proved tables, in plain C. */
