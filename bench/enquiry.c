@@ -1,12 +1,13 @@
 /* Whole enquiries over the static library beside the same sweeps in plain C: times, and the tables entry by entry. A difference is an error. */
 #include "mpakirovu.h"
 #include "network.h"
+#include <math.h>
 #include <stdio.h>
 #include <stdlib.h>
 #include <string.h>
 #include <time.h>
 
-enum { MOST_PAIRS = 1024 * 1024, RUNS = 3, MOST_TEXT = 16 * 1024 * 1024 };
+enum { MOST_PAIRS = 1024 * 1024, RUNS = 3, UNFOLDING_RUNS = 7, MOST_TEXT = 16 * 1024 * 1024 };
 
 typedef struct {
     uint32_t weight[MOST_PAIRS];
@@ -93,6 +94,77 @@ static int compare(const char *name, const network *net, rooms *mine, rooms *oth
     return !same;
 }
 
+/* The most tunnels that are open at once on the route in the step room. */
+static unsigned open_at_once(void) {
+    unsigned open = 0, most = 0;
+    for (size_t i = 0; i < told.steps; i++) {
+        uint16_t kind = step[4 * i + 1];
+        if (kind == MPAKIROVU_WRAP) open++;
+        if (kind == MPAKIROVU_UNWRAP) open--;
+        if (open > most) most = open;
+    }
+    return most;
+}
+
+/* Unfolding is what the longest route costs on top of the route of no steps. It is the difference of two times, so all three are taken in turn and equally often. */
+static int unfold(const char *name, const network *net, rooms *mine, rooms *other) {
+    spell(net);
+    asked = (enquiry){0, 0, 0, 0};
+    double tables = 1e9, least = 1e9, whole = 1e9;
+    once(proved, net, mine);
+    once(plain, net, other);
+    int same = memcmp(mine, other, sizeof *mine) == 0;
+    enquiry route = longest(net, mine);
+    for (int i = 0; i < UNFOLDING_RUNS; i++) {
+        asked = (enquiry){0, 0, 0, 0};
+        tables = fmin(tables, once(proved, net, mine));
+        least = fmin(least, once(plain, net, other));
+        asked = route;
+        whole = fmin(whole, once(proved, net, mine));
+    }
+    printf("%-14s %3zu x %2zu, %4zu links, %4zu functions: tables %7.1f ms, plain C %7.1f ms, ratio %.2f; %4u steps, %4u open at once, %7zu bytes: unfolding %6.1f ms%s\n",
+           name, net->n, net->p, net->c, net->d, tables * 1e3, least * 1e3, tables / least, told.steps, open_at_once(), told.length, (whole - tables) * 1e3,
+           same ? "" : "  DIFFERENT");
+    return !same;
+}
+
+/* Routes as deep and as long as the limits allow, and routes with many equals. */
+static int long_routes(network *net, rooms *mine, rooms *other) {
+    int wrong = 0;
+    deep(net, 92, 1, 46, 45, 2048);
+    wrong += unfold("deep", net, mine, other);
+    deep(net, 255, 4, 46, 45, 2048);
+    wrong += unfold("deep, idle", net, mine, other);
+    deep(net, 255, 4, 128, 126, 2048);
+    wrong += unfold("deep, full", net, mine, other);
+    ladder(net, 256, 4, CONVS);
+    wrong += unfold("ties, convs", net, mine, other);
+    ladder(net, 256, 4, TUNNELS);
+    wrong += unfold("ties, tunnels", net, mine, other);
+    ladder(net, 256, 4, ALL_KINDS);
+    wrong += unfold("ties, all", net, mine, other);
+    maze(net, 256, 4, 600, 0, 1);
+    wrong += unfold("maze, tunnels", net, mine, other);
+    maze(net, 256, 4, 500, 4, 2);
+    wrong += unfold("maze, all", net, mine, other);
+    return wrong;
+}
+
+/* A carrier of four protocols with as many links and functions as places: the exponent says how the time grew since half as many. */
+static void growth(network *net, rooms *r) {
+    double before = 0;
+    asked = (enquiry){0, 0, 0, 0};
+    for (size_t N = 64; N <= 1024; N *= 2) {
+        carrier_of(net, N / 4, 4, N, N, RANDOM_WEIGHTS);
+        spell(net);
+        double t = quickest(proved, net, r);
+        printf("growth         N = %4zu: %7.2f ms", N, t * 1e3);
+        if (before > 0) printf(", exponent %.2f", log2(t / before));
+        printf("\n");
+        before = t;
+    }
+}
+
 int main(void) {
     static const size_t sizes[][2] = {{16, 4}, {64, 16}, {128, 8}, {256, 4}};
     static const char *names[] = {"carrier", "equal", "zero"};
@@ -109,6 +181,8 @@ int main(void) {
     wrong += compare("chain", &net, mine, other);
     star(&net, 64, 16, RANDOM_WEIGHTS);
     wrong += compare("star", &net, mine, other);
+    wrong += long_routes(&net, mine, other);
+    growth(&net, mine);
     if (wrong) printf("%d tables differ\n", wrong);
     return wrong != 0;
 }
