@@ -38,7 +38,7 @@ const LISTED: usize = 12;
 const SHOWN: usize = 4_000;
 /// The stack on which the library is called, in bytes: what the header asks of a host, so that a call that needs more
 /// ends the run.
-const STACK: usize = 32 << 20;
+const STACK: usize = 2 << 20;
 
 /// Something that a room holds.
 trait Entry: Copy + PartialEq + Debug {

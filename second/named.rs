@@ -18,8 +18,6 @@ use std::rc::Rc;
 const SEED: u64 = 1;
 /// The text room of a case that is not about it.
 const TEXT_ROOM: usize = 65_536;
-/// Routes with more tunnels open at once are not asked of the route program, whose stack is the system's.
-const PROGRAM_TUNNELS: usize = 700;
 /// Bytes that a program's standard input is written by.
 const CHUNK: usize = 4_096;
 
@@ -111,12 +109,12 @@ impl Named {
             tally.routes[outcome.number as usize] += 1;
             self.judge(outcome, &keys)?;
         }
-        self.run_programs(tunnels(&keys), programs, tally)
+        self.run_programs(programs, tally)
     }
 
-    fn run_programs(&self, tunnels: usize, programs: &Programs, tally: &mut Tally) -> Result<(), String> {
+    fn run_programs(&self, programs: &Programs, tally: &mut Tally) -> Result<(), String> {
         let Subject { file, reference } = &*self.subject;
-        if let (Some(route), true) = (&programs.route, tunnels <= PROGRAM_TUNNELS) {
+        if let Some(route) = &programs.route {
             let Enquiry { s, a, d, b } = self.enquiry;
             let input = format!("ask\t{s}\t{a}\t{d}\t{b}\n").into_bytes();
             let expected = reference.route_program(&input);
