@@ -7,7 +7,7 @@
 #include <string.h>
 #include <time.h>
 
-enum { MOST_PAIRS = 1024 * 1024, RUNS = 3, UNFOLDING_RUNS = 7, MOST_TEXT = 16 * 1024 * 1024 };
+enum { MOST_PAIRS = 1024 * 1024, RUNS = 7, QUICK_RUNS = 60, MOST_TEXT = 16 * 1024 * 1024 };
 
 typedef struct {
     uint32_t weight[MOST_PAIRS];
@@ -53,6 +53,13 @@ static void proved(const network *net, rooms *r) {
                            8 * MOST_PAIRS, step, sizeof step / sizeof step[0], text, sizeof text);
 }
 
+/* The file is accepted and the weight room refused: what reading costs. */
+static void reading(const network *net, rooms *r) {
+    (void)net;
+    told = mpakirovu_route((const uint8_t *)file, file_len, 0, 0, 0, 0, r->weight, 0, r->count, MOST_PAIRS, r->choice, 8 * MOST_PAIRS, step,
+                           sizeof step / sizeof step[0], text, sizeof text);
+}
+
 /* The enquiry with the most steps that can be handed out, from the tables. */
 static enquiry longest(const network *net, const rooms *r) {
     size_t N = net->n * net->p, best = 0;
@@ -71,27 +78,25 @@ static double once(void (*fill)(const network *, rooms *), const network *net, r
     return now() - from;
 }
 
-static double quickest(void (*fill)(const network *, rooms *), const network *net, rooms *r) {
-    double best = 1e9;
-    for (int i = 0; i < RUNS; i++) {
-        double t = once(fill, net, r);
-        if (t < best) best = t;
-    }
-    return best;
-}
+typedef struct {
+    double read, tables, plain, route;
+} times;
 
-/* The enquiry without steps costs reading and tables; the longest one what its route and trace cost on top. */
-static int compare(const char *name, const network *net, rooms *mine, rooms *other) {
-    spell(net);
-    asked = (enquiry){0, 0, 0, 0};
-    double best = quickest(proved, net, mine);
-    double least = quickest(plain, net, other);
-    int same = memcmp(mine, other, sizeof *mine) == 0;
-    asked = longest(net, mine);
-    double route = quickest(proved, net, mine) - best;
-    printf("%-8s %3zu x %2zu, %4zu links, %4zu functions: tables %7.1f ms, plain C %7.1f ms, ratio %.2f; route of %4u steps, %7zu bytes: %6.1f ms%s\n", name, net->n,
-           net->p, net->c, net->d, best * 1e3, least * 1e3, best / least, told.steps, told.length, route * 1e3, same ? "" : "  DIFFERENT");
-    return !same;
+static const enquiry no_steps = {0, 0, 0, 0};
+
+/* The quickest of several runs of each, taken in turn, so that a busy machine slows them alike. The enquiry without steps costs reading and tables; another what its route and trace
+   cost on top. */
+static times quickest(const network *net, enquiry route, rooms *mine, rooms *other) {
+    double read = 1e9, none = 1e9, plain_c = 1e9, whole = 1e9;
+    for (int i = 0; i < (none < 0.02 ? QUICK_RUNS : RUNS); i++) {
+        read = fmin(read, once(reading, net, mine));
+        plain_c = fmin(plain_c, once(plain, net, other));
+        asked = no_steps;
+        none = fmin(none, once(proved, net, mine));
+        asked = route;
+        whole = fmin(whole, once(proved, net, mine));
+    }
+    return (times){read, none - read, plain_c, whole - none};
 }
 
 /* The most tunnels that are open at once on the route in the step room. */
@@ -106,25 +111,18 @@ static unsigned open_at_once(void) {
     return most;
 }
 
-/* Unfolding is what the longest route costs on top of the route of no steps. It is the difference of two times, so all three are taken in turn and equally often. */
-static int unfold(const char *name, const network *net, rooms *mine, rooms *other) {
+/* One line: the tables beside plain C, and the longest route. */
+static int compare(const char *name, const network *net, rooms *mine, rooms *other) {
     spell(net);
-    asked = (enquiry){0, 0, 0, 0};
-    double tables = 1e9, least = 1e9, whole = 1e9;
+    once(reading, net, mine);
+    int accepted = told.number == MPAKIROVU_ROOM_TOO_SHORT;
+    asked = no_steps;
     once(proved, net, mine);
     once(plain, net, other);
-    int same = memcmp(mine, other, sizeof *mine) == 0;
-    enquiry route = longest(net, mine);
-    for (int i = 0; i < UNFOLDING_RUNS; i++) {
-        asked = (enquiry){0, 0, 0, 0};
-        tables = fmin(tables, once(proved, net, mine));
-        least = fmin(least, once(plain, net, other));
-        asked = route;
-        whole = fmin(whole, once(proved, net, mine));
-    }
-    printf("%-14s %3zu x %2zu, %4zu links, %4zu functions: tables %7.1f ms, plain C %7.1f ms, ratio %.2f; %4u steps, %4u open at once, %7zu bytes: unfolding %6.1f ms%s\n",
-           name, net->n, net->p, net->c, net->d, tables * 1e3, least * 1e3, tables / least, told.steps, open_at_once(), told.length, (whole - tables) * 1e3,
-           same ? "" : "  DIFFERENT");
+    int same = accepted && memcmp(mine, other, sizeof *mine) == 0;
+    times t = quickest(net, longest(net, mine), mine, other);
+    printf("%-13s %3zu x %2zu %5zu %5zu %6.2f %8.2f %8.2f %6.2f %6u %6u %8zu %7.1f%s\n", name, net->n, net->p, net->c, net->d, t.read * 1e3, t.tables * 1e3, t.plain * 1e3,
+           t.tables / t.plain, told.steps, open_at_once(), told.length, t.route * 1e3, same ? "" : "  DIFFERENT");
     return !same;
 }
 
@@ -132,34 +130,34 @@ static int unfold(const char *name, const network *net, rooms *mine, rooms *othe
 static int long_routes(network *net, rooms *mine, rooms *other) {
     int wrong = 0;
     deep(net, 92, 1, 46, 45, 2048);
-    wrong += unfold("deep", net, mine, other);
+    wrong += compare("deep", net, mine, other);
     deep(net, 255, 4, 46, 45, 2048);
-    wrong += unfold("deep, idle", net, mine, other);
+    wrong += compare("deep, idle", net, mine, other);
     deep(net, 255, 4, 128, 126, 2048);
-    wrong += unfold("deep, full", net, mine, other);
+    wrong += compare("deep, full", net, mine, other);
     ladder(net, 256, 4, CONVS);
-    wrong += unfold("ties, convs", net, mine, other);
+    wrong += compare("ties, convs", net, mine, other);
     ladder(net, 256, 4, TUNNELS);
-    wrong += unfold("ties, tunnels", net, mine, other);
+    wrong += compare("ties, tunnels", net, mine, other);
     ladder(net, 256, 4, ALL_KINDS);
-    wrong += unfold("ties, all", net, mine, other);
+    wrong += compare("ties, all", net, mine, other);
     maze(net, 256, 4, 600, 0, 1);
-    wrong += unfold("maze, tunnels", net, mine, other);
+    wrong += compare("maze, tunnels", net, mine, other);
     maze(net, 256, 4, 500, 4, 2);
-    wrong += unfold("maze, all", net, mine, other);
+    wrong += compare("maze, all", net, mine, other);
     return wrong;
 }
 
 /* A carrier of four protocols with as many links and functions as places: the exponent says how the time grew since half as many. */
-static void growth(network *net, rooms *r) {
+static void growth(network *net, rooms *mine, rooms *other) {
     double before = 0;
-    asked = (enquiry){0, 0, 0, 0};
+    printf("\n%-8s %10s %9s\n", "places", "tables ms", "exponent");
     for (size_t N = 64; N <= 1024; N *= 2) {
         carrier_of(net, N / 4, 4, N, N, RANDOM_WEIGHTS);
         spell(net);
-        double t = quickest(proved, net, r);
-        printf("growth         N = %4zu: %7.2f ms", N, t * 1e3);
-        if (before > 0) printf(", exponent %.2f", log2(t / before));
+        double t = quickest(net, no_steps, mine, other).tables;
+        printf("%-8zu %10.2f", N, t * 1e3);
+        if (before > 0) printf(" %9.2f", log2(t / before));
         printf("\n");
         before = t;
     }
@@ -172,6 +170,7 @@ int main(void) {
     rooms *mine = malloc(sizeof *mine), *other = malloc(sizeof *other);
     int wrong = 0;
     if (!mine || !other) return 2;
+    printf("%-13s %8s %5s %5s %6s %8s %8s %6s %6s %6s %8s %7s\n", "family", "n x p", "links", "funs", "read", "tables", "plain C", "ratio", "steps", "open", "bytes", "route");
     for (int kind = 0; kind < 3; kind++)
         for (int i = 0; i < 4; i++) {
             carrier(&net, sizes[i][0], sizes[i][1], (enum weights)kind);
@@ -182,7 +181,7 @@ int main(void) {
     star(&net, 64, 16, RANDOM_WEIGHTS);
     wrong += compare("star", &net, mine, other);
     wrong += long_routes(&net, mine, other);
-    growth(&net, mine);
+    growth(&net, mine, other);
     if (wrong) printf("%d tables differ\n", wrong);
     return wrong != 0;
 }

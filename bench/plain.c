@@ -27,7 +27,8 @@ static void lower_to(uint64_t *costs, size_t i, uint64_t k) {
 static void compose(const tables *t, size_t r, uint64_t c, uint64_t *y) {
     const uint32_t *weight = t->weight + r * t->size;
     const uint16_t *count = t->count + r * t->size;
-    for (size_t q = 0; q < t->size; q++) lower_to(y, q, c + cost_of(weight[q], count[q]));
+    for (size_t q = 0; q < t->size; q++)
+        if (weight[q] != NEVER) lower_to(y, q, c + cost_of(weight[q], count[q]));
 }
 
 static void steps(const tables *t, uint32_t v, uint32_t kind, uint32_t x, uint64_t *a) {

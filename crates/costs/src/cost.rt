@@ -1,8 +1,9 @@
 // A cost: weight × 65,536 + steps, in one number; from FAR on there is no route.
 ghost use mathlib.Core.Path.{_≡_};
 ghost use Prim.Native.Nat.{_+_, _*_, _<_, _≤_, min};
-ghost use lib.ListN.{length};
-ghost use Rattle.paper.specs.Limits.{long-mark};
+ghost use lib.Dec.{eqb};
+ghost use lib.ListN.{length, getD};
+ghost use Rattle.paper.specs.Limits.{never-mark, long-mark};
 ghost use Rattle.costs.specs.Cells.{Spells};
 ghost use Rattle.costs.specs.Costs.{far, worth, costOf, costAt, lowerTo};
 use crate::entry::Entry;
@@ -41,6 +42,14 @@ pub fn cost_of(weight: u32, count: u16) -> u64
     step_cost(weight, count)
 }
 
+// Whether entry i says that there is no route.
+pub fn is_never(weight: &[u32], i: usize) -> bool
+    requires { ⌜ i < length (now weight) ⌝ }
+    ensures { λ r. ⌜ r ≡ eqb (getD (now (weight .entry)) i 0) never-mark ⌝ }
+{
+    weight[i] == NEVER_MARK
+}
+
 pub fn cost_at(weight: &[u32], count: &[u16], i: usize) -> u64
     requires { ⌜ (i < length (now weight)) × (i < length (now count)) ⌝ }
     ensures { λ r. ⌜ (r ≡ costAt (now (weight .entry)) (now (count .entry)) i) × (r ≤ far) ⌝ }
@@ -52,6 +61,13 @@ fn least(a: u64, b: u64) -> u64
     ensures { λ r. ⌜ r ≡ min a b ⌝ }
 {
     if a < b { a } else { b }
+}
+
+pub fn cost_there(costs: &[u64], i: usize) -> u64
+    requires { ⌜ i < length (now costs) ⌝ }
+    ensures { λ k. ⌜ k ≡ getD (now (costs .entry)) i 0 ⌝ }
+{
+    costs[i]
 }
 
 pub fn lower_to(costs: &mut [u64], i: usize, k: u64)

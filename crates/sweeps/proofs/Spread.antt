@@ -6,13 +6,14 @@ use mathlib.Core.Bool.{Bool, true, false, cond}
 use mathlib.Core.List.{List}
 use native.Mathlib.Omega.{arith}
 use borrow.Author.Tests.{leb-true}
-use lib.Dec.{leb}
+use lib.Dec.{leb, eqb}
 use lib.ListN.{getD}
+use Rattle.paper.specs.Limits.{never-mark}
 use Rattle.laws.specs.Value.{Value, plus}
-use Rattle.costs.specs.Costs.{far, worth, costAt, lowerTo}
+use Rattle.costs.specs.Costs.{far, worth, costOf, costAt, lowerTo}
 use Rattle.costs.specs.Cells.{valueAt}
 use Rattle.costs.proofs.Worth.{Sized, sized-plus, worth-plus, Costs}
-use Rattle.sweeps.specs.Row.{composed, onward, onwards, idle, going, goings}
+use Rattle.sweeps.specs.Row.{carried, composed, onward, onwards, idle, going, goings}
 use Rattle.sweeps.proofs.Corners.{begin-le}
 use Rattle.sweeps.proofs.Falls.{Local, Fall, fall-none, lower-fall, lower-hit, upto-fall, upto-low}
 
@@ -35,19 +36,37 @@ module _ (W C : List ℕ) (size : ℕ) (costs : (i : ℕ) → i < size * size �
 
   -- ## By one row
 
-  composed-turn : (r : ℕ) → r < size → (q : ℕ) → q < size → (y : List ℕ) → Local size (m + 1) B y
-      → Fall size (m + 1) B y (lowerTo q (getD a r 0 + costAt W C (r * size + q)) y)
-  composed-turn r hr q hq = lower-fall size (m + 1) B q _ hq (on-sized r q hr hq) (on-is r q hr hq)
+  carried-fall : (r : ℕ) → r < size → (q : ℕ) → q < size → (y : List ℕ) → Local size (m + 1) B y
+      → Fall size (m + 1) B y (carried W C (getD a r 0) (r * size + q) q y)
+  unfolding carried
+  carried-fall r hr q hq y ly = go (eqb (getD W (r * size + q) 0) never-mark)
+    where
+      go : (b : Bool) → Fall size (m + 1) B y (cond b y (lowerTo q (getD a r 0 + costAt W C (r * size + q)) y))
+      go true = fall-none size (m + 1) B y ly
+      go false = lower-fall size (m + 1) B q _ hq (on-sized r q hr hq) (on-is r q hr hq) y ly
+
+  carried-low : (r q : ℕ) → r < size → q < size → (y : List ℕ) → Local size (m + 1) B y
+      → getD (carried W C (getD a r 0) (r * size + q) q y) q 0 ≤ getD a r 0 + costAt W C (r * size + q)
+  unfolding carried costAt costOf
+  carried-low r q hr hq y ly = go (eqb (getD W (r * size + q) 0) never-mark) refl
+    where
+      never : eqb (getD W (r * size + q) 0) never-mark ≡ true → costAt W C (r * size + q) ≡ far
+      never e = rw e
+
+      go : (b : Bool) → eqb (getD W (r * size + q) 0) never-mark ≡ b
+          → getD (cond b y (lowerTo q (getD a r 0 + costAt W C (r * size + q)) y)) q 0 ≤ getD a r 0 + costAt W C (r * size + q)
+      go true e = omega (arith, never e, ly .near q hq)
+      go false e = lower-hit size (m + 1) B q _ hq (on-sized r q hr hq) (on-is r q hr hq) y ly
 
   composed-fall : (r : ℕ) → r < size → (y : List ℕ) → Local size (m + 1) B y → Fall size (m + 1) B y (composed W C size (r * size) (getD a r 0) y)
   unfolding composed
-  composed-fall r hr = upto-fall size (m + 1) B _ size (composed-turn r hr)
+  composed-fall r hr = upto-fall size (m + 1) B _ size (carried-fall r hr)
 
   composed-low : (r q : ℕ) → r < size → q < size → (y : List ℕ) → Local size (m + 1) B y
       → getD (composed W C size (r * size) (getD a r 0) y) q 0 ≤ getD a r 0 + costAt W C (r * size + q)
   unfolding composed
   composed-low r q hr hq =
-      upto-low size (m + 1) B _ size (composed-turn r hr) q q _ hq hq (lower-hit size (m + 1) B q _ hq (on-sized r q hr hq) (on-is r q hr hq))
+      upto-low size (m + 1) B _ size (carried-fall r hr) q q _ hq hq (carried-low r q hr hq)
 
   onward-fall : (r : ℕ) → r < size → (y : List ℕ) → Local size (m + 1) B y → Fall size (m + 1) B y (onward W C size a r y)
   unfolding onward

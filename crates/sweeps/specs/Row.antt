@@ -6,6 +6,7 @@ use mathlib.Core.Bool.{Bool, cond, not, _&&_, _||_}
 use mathlib.Core.List.{List}
 use lib.Dec.{eqb, leb, ltb}
 use lib.ListN.{getD}
+use Rattle.paper.specs.Limits.{never-mark}
 use Rattle.paper.specs.Net.{place}
 use Rattle.laws.specs.Value.{Value, heft, count}
 use Rattle.records.specs.Columns.{from, to, toll, node, kind, xOf, yOf, fee}
@@ -22,10 +23,14 @@ idle W C i k stamp since =
     less (getD W i 0) (getD C i 0) (heft (worth k)) (count (worth k))
     || (ltb stamp since && not (less (heft (worth k)) (count (worth k)) (getD W i 0) (getD C i 0)))
 
+-- at c, and then by entry i to place q, where there is a route
+unfoldable pub carried : (W C : List ℕ) (c i q : ℕ) → List ℕ → List ℕ
+carried W C c i q y = cond (eqb (getD W i 0) never-mark) y (lowerTo q (c + costAt W C i) y)
+
 module _ (W C : List ℕ) (size : ℕ) where
   -- at c, and then by the row that begins at `base`
   unfoldable pub composed : (base c : ℕ) → List ℕ → List ℕ
-  composed base c = upto (λ q. lowerTo q (c + costAt W C (base + q))) size
+  composed base c = upto (λ q. carried W C c (base + q) q) size
 
   -- on from place r, where something gets there
   unfoldable pub onward : (a : List ℕ) (r : ℕ) → List ℕ → List ℕ

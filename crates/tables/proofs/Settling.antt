@@ -14,7 +14,7 @@ use Rattle.sweeps.specs.Filled.{Filled}
 use Rattle.sweeps.proofs.Lowering.{size}
 use Rattle.sweeps.proofs.Exact.{Sound, Still}
 use Rattle.sweeps.proofs.Begin.{Kept, kept-none, kept-then, begun, swept, left-falls, done-still, filled}
-use Rattle.row.specs.Asked.{Roomy}
+use Rattle.spread.specs.Asked.{Roomy}
 
 -- what is left to do
 abbrev pub left : (W C : List ℕ) (since : ℕ) (done : Bool) → ℕ

@@ -9,10 +9,8 @@ ghost use Rattle.tables.specs.Lent.{Lent};
 use crate::choice::clear_choice;
 use crate::settle::settle;
 
-mod begin;
 mod choice;
 mod settle;
-mod sweep;
 
 // Fills the first (n × p)² entries of the weight and count rooms; the first 8 × (n × p)² of the choice room become 0.
 pub fn fill(

@@ -5,9 +5,9 @@ ghost use Prim.Native.Nat.{_+_, _*_, _<_, _≤_};
 ghost use lib.ListN.{length};
 ghost use Rattle.records.specs.Columns.{hopOf};
 ghost use Rattle.sweeps.specs.Filled.{Filled};
-ghost use Rattle.row.specs.Asked.{Sweeping};
-use crate::begin::prepare;
-use crate::sweep::sweep_all;
+ghost use Rattle.ways.specs.Asked.{Sweeping};
+use lowering::begin::prepare;
+use visits::sweep_all;
 
 // The stamp from which a row counts as new in the next sweep: none does where the last one changed nothing.
 fn since_when(fell: bool, stamp: u32) -> u32

@@ -1,7 +1,8 @@
 use mathlib.Core.Path.{refl, _∙_}
 use borrow.Author.Needs.{needs}
 use Rattle.tables.proofs.Settling.{left, Settling, settling-begun, settling-turn, left-less, settled}
-use Rattle.tables.proofs.Turns.{still-sweeping, not-false}
+use Rattle.tables.proofs.Turns.{not-false}
+use Rattle.visits.proofs.Turns.{still-sweeping}
 use Rattle.tables.proofs.settle.settle.Statement.{statement}
 use Rattle.tables.proofs.settle.settle.Tie as tie
 

@@ -1,0 +1,56 @@
+use native.Mathlib.Omega.{arith}
+use borrow.Author.Needs.{needs}
+use Rattle.unwraps.proofs.Turns.{landing-at}
+use Rattle.sweeps.proofs.Loops.{turn}
+use Rattle.sweeps.specs.Row.{landing, landings}
+use Rattle.costs.specs.Loop.{upto}
+use lib.ListN.{length}
+use mathlib.Core.Path.{_≡_}
+use Prim.Native.Nat.{_-_, _≤_}
+use Rattle.unwraps.proofs.land_all.Statement.{statement}
+use Rattle.unwraps.proofs.land_all.Tie as tie
+
+abbrev Inv-loop : tie.InvT-loop
+Inv-loop links c n p x ends a₀ i₀ a i = (i ≤ c) × (length a ≡ length a₀) × (a ≡ upto (landing p links x ends) i a₀)
+
+abbrev μ-loop : tie.MeasureT-loop
+μ-loop links c n p x ends a₀ i₀ a i = c - i
+
+loop-holds : tie.Need-loop-holds Inv-loop μ-loop
+unfolding upto
+loop-holds c = search needs
+
+land-requires : tie.Need-land-requires Inv-loop μ-loop
+land-requires c κs = landing-at _ _ (c .before .before .before .before .before .before .pre) (c .before .loop-test .taken) (c .before .before .loop .inv .1)
+
+add-i : tie.Need-add-i Inv-loop μ-loop
+add-i c = search needs
+
+loop-less : tie.Need-loop-less Inv-loop μ-loop
+loop-less c = search needs
+
+loop-again : tie.Need-loop-again Inv-loop μ-loop
+loop-again c = (search needs, search needs, turn _ _ _ _ _ (c .before .before .before .before .before .loop .inv .2) (c .before .before .land .ensures))
+
+same-length : tie.Need-same-length Inv-loop μ-loop
+same-length c = search needs
+
+returns : tie.Need-returns Inv-loop μ-loop
+unfolding landings
+returns c =
+    let e : c .before .loop .i ≡ c .before .before .before .before .before .args .c = omega arith in
+    rw e at (c .before .loop .inv .2)
+
+pub land-all-spec : {M : Type 1} → statement M
+land-all-spec =
+    tie.close
+    (tie.spec
+    Inv-loop
+    μ-loop
+    loop-holds
+    land-requires
+    add-i
+    loop-less
+    loop-again
+    same-length
+    returns)

@@ -1,0 +1,47 @@
+-- What the proofs of the code cite: one law for each function, over plain variables. Assumes nothing.
+use Prim.Native.Nat.{ℕ, _<_, _-_}
+use mathlib.Core.Path.{_≡_, refl}
+use mathlib.Core.Bool.{Bool, true, false, cond, not, _||_}
+use mathlib.Core.List.{List}
+use native.Mathlib.Omega.{arith}
+use lib.ListN.{length, set}
+use Rattle.paper.specs.Net.{place}
+use Rattle.costs.specs.Cells.{cells}
+use Rattle.sweeps.specs.Row.{row}
+use Rattle.sweeps.specs.Sweep.{Stage, stage, stamped, visited, nodeRows, turned}
+use Rattle.ways.specs.Asked.{Sweeping}
+
+pub marked : (H : List ℕ) (r stamp : ℕ) (b : Bool) → not b ≡ false → set H r stamp ≡ cond b (set H r stamp) H
+marked H r stamp true e = refl
+marked H r stamp false e = absurd (let z : _≡_ {A = ℕ} 0 1 = cc in omega arith)
+
+pub unmarked : (H : List ℕ) (r stamp : ℕ) (b : Bool) → not b ≡ true → H ≡ cond b (set H r stamp) H
+unmarked H r stamp true e = absurd (let z : _≡_ {A = ℕ} 0 1 = cc in omega arith)
+unmarked H r stamp false e = refl
+
+pub visiting : (n p nl : ℕ) (ls : List ℕ) (nf : ℕ) (fs : List ℕ) (stamp since v x at : ℕ) (W C H W′ C′ H′ : List ℕ) (b r : Bool) → cells W′ C′ r ≡ row n p nl ls nf fs H since v x (cells W C false)
+    → at ≡ place p v x → H′ ≡ cond r (set H at stamp) H → stage W′ C′ H′ (b || r) ≡ visited n p nl ls nf fs stamp since v x (stage W C H b)
+unfolding visited stamped
+visiting n p nl ls nf fs stamp since v x at W C H W′ C′ H′ b r e f g = rw (← e, ← f, g)
+
+pub still-sweeping : {n p nl : ℕ} {ls : List ℕ} {nf : ℕ} {fs W C H : List ℕ} (W′ C′ H′ : List ℕ) → Sweeping n p nl ls nf fs W C H → length W′ ≡ length W → length C′ ≡ length C → length H′ ≡ length H
+    → Sweeping n p nl ls nf fs W′ C′ H′
+still-sweeping W′ C′ H′ s a b c =
+    record {
+      valid = s .valid;
+      roomy = record { few = s .roomy .few; weights = rw a (s .roomy .weights); counts = rw b (s .roomy .counts) };
+      stamps = rw c (s .stamps);
+    }
+
+-- the order of the nodes
+pub turned-back : (b : Bool) (n k : ℕ) → b ≡ true → k < n → (n - 1 - k ≡ turned b n k) × (n - 1 - k < n)
+unfolding turned
+turned-back b n k e h = (rw e, omega arith)
+
+pub turned-on : (b : Bool) (n k : ℕ) → b ≡ false → k < n → (k ≡ turned b n k) × (k < n)
+unfolding turned
+turned-on b n k e h = (rw e, h)
+
+pub turning : (n p nl : ℕ) (ls : List ℕ) (nf : ℕ) (fs : List ℕ) (stamp since : ℕ) (back : Bool) (k v : ℕ) (s t : Stage) → v ≡ turned back n k → t ≡ nodeRows n p nl ls nf fs stamp since v s
+    → t ≡ nodeRows n p nl ls nf fs stamp since (turned back n k) s
+turning n p nl ls nf fs stamp since back k v s t e g = rw e at g

@@ -1,0 +1,72 @@
+use native.Mathlib.Omega.{arith}
+use borrow.Author.Needs.{needs}
+use Rattle.visits.proofs.Turns.{still-sweeping, turning}
+use Rattle.sweeps.proofs.Loops.{turn}
+use Rattle.sweeps.specs.Sweep.{stage, nodeRows, turned, sweep}
+use Rattle.costs.specs.Loop.{upto}
+use lib.ListN.{length}
+use mathlib.Core.Path.{_≡_}
+use Prim.Native.Nat.{_-_, _≤_}
+use Rattle.visits.proofs.sweep_all.Statement.{statement}
+use Rattle.visits.proofs.sweep_all.Tie as tie
+
+abbrev Inv-loop : tie.InvT-loop
+Inv-loop links c funs d n p weight₀ count₀ stamps₀ stamp since back any₀ k₀ weight count stamps any k =
+    (k ≤ n) × (length weight ≡ length weight₀) × (length count ≡ length count₀) × (length stamps ≡ length stamps₀)
+    × (stage weight count stamps any ≡ upto (λ i. nodeRows n p c links d funs stamp since (turned back n i)) k (stage weight₀ count₀ stamps₀ any₀))
+
+abbrev μ-loop : tie.MeasureT-loop
+μ-loop links c funs d n p weight₀ count₀ stamps₀ stamp since back any₀ k₀ weight count stamps any k = n - k
+
+loop-holds : tie.Need-loop-holds Inv-loop μ-loop
+unfolding upto
+loop-holds c = search needs
+
+nth-requires : tie.Need-nth-requires Inv-loop μ-loop
+nth-requires c κs = search needs
+
+visit-node-requires : tie.Need-visit-node-requires Inv-loop μ-loop
+visit-node-requires c κs =
+    let i = c .before .before .before .before .before .loop .inv in
+    (still-sweeping _ _ _ (c .before .before .before .before .before .before .before .before .before .before .before .pre) (i .1) (i .2) (i .3), c .nth .ensures .1)
+
+add-k : tie.Need-add-k Inv-loop μ-loop
+add-k c = search needs
+
+loop-less : tie.Need-loop-less Inv-loop μ-loop
+loop-less c = search needs
+
+loop-again : tie.Need-loop-again Inv-loop μ-loop
+loop-again c = (search needs, search needs, search needs, search needs, turn _ _ _ _ _ (c .before .before .before .before .before .before .before .before .before .before .before .before .loop .inv .4) (turning _ _ _ _ _ _ _ _ _ _ _ _ _ (c .before .before .before .before .before .before .before .nth .ensures .0) (c .before .before .before .before .before .before .visit-node .ensures)))
+
+same-length : tie.Need-same-length Inv-loop μ-loop
+same-length c = search needs
+
+same-length-2 : tie.Need-same-length-2 Inv-loop μ-loop
+same-length-2 c = search needs
+
+same-length-3 : tie.Need-same-length-3 Inv-loop μ-loop
+same-length-3 c = search needs
+
+returns : tie.Need-returns Inv-loop μ-loop
+unfolding sweep
+returns c =
+    let e : c .before .loop .k ≡ c .before .before .before .before .before .before .before .args .n = omega arith in
+    rw e at (c .before .loop .inv .4)
+
+pub sweep-all-spec : {M : Type 1} → statement M
+sweep-all-spec =
+    tie.close
+    (tie.spec
+    Inv-loop
+    μ-loop
+    loop-holds
+    nth-requires
+    visit-node-requires
+    add-k
+    loop-less
+    loop-again
+    same-length
+    same-length-2
+    same-length-3
+    returns)

@@ -1,0 +1,68 @@
+use native.Mathlib.Omega.{arith}
+use borrow.Author.Needs.{needs}
+use Rattle.visits.proofs.Turns.{still-sweeping}
+use Rattle.sweeps.proofs.Loops.{turn}
+use Rattle.sweeps.specs.Sweep.{stage, visited, nodeRows}
+use Rattle.costs.specs.Loop.{upto}
+use lib.ListN.{length}
+use mathlib.Core.Path.{_≡_}
+use Prim.Native.Nat.{_-_, _≤_}
+use Rattle.visits.proofs.visit_node.Statement.{statement}
+use Rattle.visits.proofs.visit_node.Tie as tie
+
+abbrev Inv-loop : tie.InvT-loop
+Inv-loop links c funs d n p weight₀ count₀ stamps₀ stamp since v fell any₀ x₀ weight count stamps any x =
+    (x ≤ p) × (length weight ≡ length weight₀) × (length count ≡ length count₀) × (length stamps ≡ length stamps₀)
+    × (stage weight count stamps any ≡ upto (visited n p c links d funs stamp since v) x (stage weight₀ count₀ stamps₀ any₀))
+
+abbrev μ-loop : tie.MeasureT-loop
+μ-loop links c funs d n p weight₀ count₀ stamps₀ stamp since v fell any₀ x₀ weight count stamps any x = p - x
+
+loop-holds : tie.Need-loop-holds Inv-loop μ-loop
+unfolding upto
+loop-holds c = search needs
+
+visit-requires : tie.Need-visit-requires Inv-loop μ-loop
+visit-requires c κs =
+    let i = c .before .before .before .before .loop .inv in
+    (still-sweeping _ _ _ (c .before .before .before .before .before .before .before .before .before .before .pre .0) (i .1) (i .2) (i .3), (c .before .before .before .before .before .before .before .before .before .before .pre .1, c .before .before .before .loop-test .taken))
+
+add-x : tie.Need-add-x Inv-loop μ-loop
+add-x c = search needs
+
+loop-less : tie.Need-loop-less Inv-loop μ-loop
+loop-less c = search needs
+
+loop-again : tie.Need-loop-again Inv-loop μ-loop
+loop-again c = (search needs, search needs, search needs, search needs, turn _ _ _ _ _ (c .before .before .before .before .before .before .before .before .before .before .before .loop .inv .4) (c .before .before .before .before .before .before .visit .ensures))
+
+same-length : tie.Need-same-length Inv-loop μ-loop
+same-length c = search needs
+
+same-length-2 : tie.Need-same-length-2 Inv-loop μ-loop
+same-length-2 c = search needs
+
+same-length-3 : tie.Need-same-length-3 Inv-loop μ-loop
+same-length-3 c = search needs
+
+returns : tie.Need-returns Inv-loop μ-loop
+unfolding nodeRows
+returns c =
+    let e : c .before .loop .x ≡ c .before .before .before .before .before .before .before .args .p = omega arith in
+    rw e at (c .before .loop .inv .4)
+
+pub visit-node-spec : {M : Type 1} → statement M
+visit-node-spec =
+    tie.close
+    (tie.spec
+    Inv-loop
+    μ-loop
+    loop-holds
+    visit-requires
+    add-x
+    loop-less
+    loop-again
+    same-length
+    same-length-2
+    same-length-3
+    returns)
