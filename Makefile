@@ -14,6 +14,7 @@ test:
 	examples/run
 	second/build
 	target/second/driver --self
+	target/second/driver --named target/bin/route target/bin/normalise
 	target/second/driver 3000 1 target/bin/route target/bin/normalise
 	rt ci
 

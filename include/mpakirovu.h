@@ -103,9 +103,9 @@ extern "C" {
 #define MPAKIROVU_LONGEST 4096u           /* steps of a route that is handed out */
 
 /* The stack that a call may need, in bytes: a thread that calls the library has to have it free. Each
-   tunnel that is open at once takes about 10 KB: 2,025 of them overflow 16 MiB and run in 24 MiB. It is
-   no part of what is proved. */
-#define MPAKIROVU_STACK_BYTES 33554432u
+   tunnel that is open at once takes about 700 bytes: the most that a route can have, 2,048, overflow
+   1,350 KiB and run in 1,500 KiB. It is no part of what is proved. */
+#define MPAKIROVU_STACK_BYTES 2097152u
 
 /* 5. SIZES OF ROOMS */
 

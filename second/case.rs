@@ -6,7 +6,7 @@
 use crate::damage;
 use crate::enquiries;
 use crate::generate::{self, Made};
-use crate::library;
+use crate::library::{self, Empty};
 use crate::process::{Folder, Net};
 use crate::random::Random;
 use crate::reference::Reference;
@@ -19,8 +19,8 @@ const SMALL: usize = 4_000;
 
 /// The programs to run, where given, and where to run them.
 pub struct Programs {
-    route: Option<PathBuf>,
-    normalise: Option<PathBuf>,
+    pub route: Option<PathBuf>,
+    pub normalise: Option<PathBuf>,
     pub folder: Folder,
 }
 
@@ -40,9 +40,9 @@ impl Programs {
 /// How often each outcome was seen, and how many programs were run.
 #[derive(Default)]
 pub struct Tally {
-    routes: [u64; 12],
-    normals: [u64; 12],
-    runs: u64,
+    pub routes: [u64; 12],
+    pub normals: [u64; 12],
+    pub runs: u64,
 }
 
 impl Tally {
@@ -61,17 +61,17 @@ impl Tally {
 }
 
 /// A file that is asked for, with the answers expected.
-struct Subject {
-    file: Vec<u8>,
-    reference: Reference,
+pub struct Subject {
+    pub file: Vec<u8>,
+    pub reference: Reference,
 }
 
 impl Subject {
-    fn of(file: Vec<u8>) -> Subject {
+    pub fn of(file: Vec<u8>) -> Subject {
         Subject { reference: Reference::of(&file), file }
     }
 
-    fn accepted(&self) -> bool {
+    pub fn accepted(&self) -> bool {
         self.reference.network().is_ok()
     }
 }
@@ -109,7 +109,7 @@ impl Case {
         let Subject { file, reference } = subject;
         let random = &mut self.random;
         let text_length = enquiries::normal_length(random, file);
-        match library::compare_normal(random, reference, file, text_length) {
+        match library::compare_normal(random, reference, file, text_length, Empty::Either) {
             Ok(outcome) => tally.normals[outcome.number as usize] += 1,
             Err(difference) => return Err(self.report(file, &difference)),
         }
@@ -153,22 +153,24 @@ impl Case {
         Ok(())
     }
 
-    /// The file is told line by line, and kept byte by byte beside the driver.
     fn report(&self, file: &[u8], difference: &str) -> String {
         let Case { seed, number, made, .. } = self;
-        let kept = env::current_exe()
-            .map(|driver| driver.with_file_name(format!("mismatch-{seed}-{number}.tsv")))
-            .and_then(|path| fs::write(&path, file).map(|()| path));
-        let kept = kept.map_or_else(|error| format!("not kept: {error}"), |path| format!("kept as {}", path.display()));
-        let lines: Vec<String> =
-            file.split_inclusive(|&byte| byte == b'\n').map(|line| format!("    {}\n", line.escape_ascii())).collect();
         format!(
             "MISMATCH in case {number} of seed {seed} (family {})\n\
-             again: driver --case {seed} {number}, with the same programs\n\
-             network file, {} bytes, {kept}:\n{}{difference}",
+             again: driver --case {seed} {number}, with the same programs\n{}{difference}",
             made.family,
-            file.len(),
-            lines.concat()
+            told_file(file, &format!("mismatch-{seed}-{number}"))
         )
     }
+}
+
+/// A network file for a report: told line by line, and kept byte by byte beside the driver.
+pub fn told_file(file: &[u8], name: &str) -> String {
+    let kept = env::current_exe()
+        .map(|driver| driver.with_file_name(format!("{name}.tsv")))
+        .and_then(|path| fs::write(&path, file).map(|()| path));
+    let kept = kept.map_or_else(|error| format!("not kept: {error}"), |path| format!("kept as {}", path.display()));
+    let lines: Vec<String> =
+        file.split_inclusive(|&byte| byte == b'\n').map(|line| format!("    {}\n", line.escape_ascii())).collect();
+    format!("network file, {} bytes, {kept}:\n{}", file.len(), lines.concat())
 }

@@ -5,8 +5,10 @@ mod brute;
 mod case;
 mod damage;
 mod enquiries;
+mod examples;
 mod generate;
 mod library;
+mod named;
 mod process;
 mod random;
 mod reference;
@@ -19,6 +21,7 @@ use std::{env, io};
 const USAGE: &str = "\
 driver CASES SEED [ROUTE [NORMALISE]]
 driver --case SEED CASE [ROUTE [NORMALISE]]
+driver --named [ROUTE [NORMALISE]]
 driver --self";
 
 /// After so many mismatches a run ends.
@@ -32,7 +35,7 @@ fn run_cases(cases: u64, seed: u64, programs: &Programs) -> io::Result<bool> {
     let mut mismatches = 0;
     let mut done = 0;
     while done < cases && mismatches < MOST_MISMATCHES {
-        programs.folder.note(seed, done)?;
+        programs.folder.note(&format!("{seed} {done}"))?;
         if let Err(report) = Case::of(seed, done).run(programs, &mut tally) {
             mismatches += 1;
             println!("{report}");
@@ -60,6 +63,9 @@ fn run_case(seed: u64, number: u64, programs: &Programs) -> bool {
 fn perform(arguments: &[&str]) -> Option<io::Result<bool>> {
     match arguments {
         ["--self"] => Some(Ok(selftest::run())),
+        ["--named", paths @ ..] if paths.len() <= 2 => {
+            Some(Programs::given(paths).and_then(|programs| named::run(&programs)))
+        }
         ["--case", seed, number, paths @ ..] if paths.len() <= 2 => {
             let (seed, number) = (seed.parse().ok()?, number.parse().ok()?);
             Some(Programs::given(paths).map(|programs| run_case(seed, number, &programs)))

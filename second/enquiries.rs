@@ -1,7 +1,7 @@
 //! What is asked of a network: the four values of an enquiry, the lengths of the rooms around those that just suffice,
 //! and the input of the route program.
 
-use crate::library::Lengths;
+use crate::library::{Empty, Lengths};
 use crate::random::Random;
 use crate::reference::{Enquiry, Network, Reference, INPUT_LIMIT, STEP_LIMIT};
 
@@ -93,7 +93,8 @@ fn out_of_range(random: &mut Random, network: &Network) -> Enquiry {
 pub fn lengths(random: &mut Random, reference: &Reference, enquiry: Enquiry) -> Lengths {
     let Ok(network) = reference.network() else {
         let mut length = || random.pick(&[0, 1, 4, 30, 300]);
-        return Lengths { weight: length(), count: length(), choice: length(), step: length(), text: length() };
+        let [weight, count, choice, step, text] = [(); 5].map(|()| length());
+        return Lengths { weight, count, choice, step, text, empty: Empty::Either };
     };
     let pairs = network.places() * network.places();
     let mut tables = [pairs, pairs, 8 * pairs];
@@ -136,7 +137,7 @@ pub fn lengths(random: &mut Random, reference: &Reference, enquiry: Enquiry) -> 
         6..=11 => bytes + random.within(1..=40),
         _ => bytes,
     };
-    Lengths { weight, count, choice, step, text }
+    Lengths { weight, count, choice, step, text, empty: Empty::Either }
 }
 
 /// The text room of the normal writer.

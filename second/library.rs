@@ -6,7 +6,7 @@ use crate::random::Random;
 use crate::reference::{Enquiry, Outcome, Reference, Rooms};
 use std::fmt::Debug;
 use std::fmt::Write;
-use std::ptr;
+use std::{ptr, thread};
 
 extern "C" {
     fn mpakirovu_route(
@@ -33,8 +33,12 @@ extern "C" {
 
 /// The most entries of guard before and after a room.
 const GUARD: usize = 24;
-/// How many differing entries of a room a report lists.
+/// How many differing entries of a room a report lists, and how many bytes or entries of an answer it shows.
 const LISTED: usize = 12;
+const SHOWN: usize = 4_000;
+/// The stack on which the library is called, in bytes: what the header asks of a host, so that a call that needs more
+/// ends the run.
+const STACK: usize = 2 << 20;
 
 /// Something that a room holds.
 trait Entry: Copy + PartialEq + Debug {
@@ -59,6 +63,15 @@ impl Entry for u32 {
     }
 }
 
+/// How rooms of length 0 are lent.
+#[derive(Clone, Copy, Debug, PartialEq, Eq)]
+pub enum Empty {
+    Null,
+    Pointer,
+    /// Each room as chance has it.
+    Either,
+}
+
 /// A room with guards on both sides; one of length 0 may be lent as NULL.
 #[derive(Clone)]
 struct Lent<T> {
@@ -69,7 +82,7 @@ struct Lent<T> {
 }
 
 impl<T: Entry> Lent<T> {
-    fn new(random: &mut Random, length: usize) -> Lent<T> {
+    fn new(random: &mut Random, length: usize, empty: Empty) -> Lent<T> {
         let start = random.within(1..=GUARD);
         let whole = start + length + random.within(1..=GUARD);
         let memory = match random.below(5) {
@@ -77,12 +90,18 @@ impl<T: Entry> Lent<T> {
             1 => vec![T::of(u64::MAX); whole],
             _ => (0..whole).map(|_| T::of(random.next())).collect(),
         };
-        Lent { memory, start, length, null: length == 0 && random.percent(50) }
+        let null = match empty {
+            _ if length > 0 => false,
+            Empty::Null => true,
+            Empty::Pointer => false,
+            Empty::Either => random.percent(50),
+        };
+        Lent { memory, start, length, null }
     }
 
     /// A copy of something lent for reading.
-    fn holding(random: &mut Random, entries: &[T]) -> Lent<T> {
-        let mut lent = Lent::new(random, entries.len());
+    fn holding(random: &mut Random, entries: &[T], empty: Empty) -> Lent<T> {
+        let mut lent = Lent::new(random, entries.len(), empty);
         lent.room().copy_from_slice(entries);
         lent
     }
@@ -127,7 +146,7 @@ fn add(report: &mut String, line: String) {
     writeln!(report, "{line}").expect("writing to a string succeeds");
 }
 
-/// The lengths of the five rooms.
+/// The lengths of the five rooms, and how those of length 0 are lent.
 #[derive(Clone, Copy, Debug)]
 pub struct Lengths {
     pub weight: usize,
@@ -135,6 +154,7 @@ pub struct Lengths {
     pub choice: usize,
     pub step: usize,
     pub text: usize,
+    pub empty: Empty,
 }
 
 /// Everything lent to a route enquiry, before or after it.
@@ -184,6 +204,14 @@ impl AllLent {
     }
 }
 
+/// Calls the library on a thread of its own, so that its stack is what `STACK` says.
+fn on_stack(call: impl FnOnce() -> Outcome + Send) -> Outcome {
+    thread::scope(|scope| {
+        let called = thread::Builder::new().stack_size(STACK).spawn_scoped(scope, call).expect("a thread is to be had");
+        called.join().expect("the library does not panic")
+    })
+}
+
 /// Calls the route enquiry on both sides; the expected outcome, or a report of how they differ.
 pub fn compare_route(
     random: &mut Random,
@@ -192,17 +220,18 @@ pub fn compare_route(
     enquiry: Enquiry,
     lengths: Lengths,
 ) -> Result<Outcome, String> {
+    let Lengths { weight, count, choice, step, text, empty } = lengths;
     let before = AllLent {
-        file: Lent::holding(random, file),
-        weight: Lent::new(random, lengths.weight),
-        count: Lent::new(random, lengths.count),
-        choice: Lent::new(random, lengths.choice),
-        step: Lent::new(random, lengths.step),
-        text: Lent::new(random, lengths.text),
+        file: Lent::holding(random, file, empty),
+        weight: Lent::new(random, weight, empty),
+        count: Lent::new(random, count, empty),
+        choice: Lent::new(random, choice, empty),
+        step: Lent::new(random, step, empty),
+        text: Lent::new(random, text, empty),
     };
     let (mut right, mut found) = (before.clone(), before.clone());
     let expected = reference.route(enquiry, right.rooms());
-    let outcome = found.call(enquiry);
+    let outcome = on_stack(|| found.call(enquiry));
 
     let mut differences = String::new();
     right.file.report("file", &before.file, &found.file, &mut differences);
@@ -232,7 +261,7 @@ pub fn compare_route(
     );
     report_answers(&mut report, expected, right.text.room(), outcome, found.text.room());
     if expected.number == 0 || expected.number == 11 {
-        let entries = 4 * expected.steps as usize;
+        let entries = (4 * expected.steps as usize).min(SHOWN);
         add(&mut report, format!("expected steps {:?}", &right.step.room()[..entries]));
         add(&mut report, format!("found steps    {:?}", &found.step.room()[..entries]));
     }
@@ -245,14 +274,17 @@ pub fn compare_normal(
     reference: &Reference,
     file: &[u8],
     text_length: usize,
+    empty: Empty,
 ) -> Result<Outcome, String> {
-    let file_before = Lent::holding(random, file);
-    let text_before = Lent::<u8>::new(random, text_length);
+    let file_before = Lent::holding(random, file, empty);
+    let text_before = Lent::<u8>::new(random, text_length, empty);
     let (mut right, mut found) = (text_before.clone(), text_before.clone());
     let mut file_after = file_before.clone();
     let expected = reference.normal(right.room());
-    // SAFETY: both pointers are good for their lengths, or NULL with length 0, and the memories do not overlap.
-    let outcome = unsafe { mpakirovu_normal(file_after.pointer(), file_after.length, found.pointer(), found.length) };
+    let outcome = on_stack(|| {
+        // SAFETY: both pointers are good for their lengths, or NULL with length 0, and the memories do not overlap.
+        unsafe { mpakirovu_normal(file_after.pointer(), file_after.length, found.pointer(), found.length) }
+    });
 
     let mut differences = String::new();
     file_before.report("file", &file_before, &file_after, &mut differences);
@@ -267,10 +299,10 @@ pub fn compare_normal(
     Err(report + &differences)
 }
 
-/// Both outcomes, and the text each says it has written as far as the room goes.
+/// Both outcomes, and the text each says it has written as far as the room goes and a reader would.
 fn report_answers(report: &mut String, expected: Outcome, right: &[u8], outcome: Outcome, found: &[u8]) {
     add(report, format!("expected {expected:?}"));
     add(report, format!("found    {outcome:?}"));
-    add(report, format!("expected text {}", right[..expected.length].escape_ascii()));
-    add(report, format!("found text    {}", found[..outcome.length.min(found.len())].escape_ascii()));
+    add(report, format!("expected text {}", right[..expected.length.min(SHOWN)].escape_ascii()));
+    add(report, format!("found text    {}", found[..outcome.length.min(found.len()).min(SHOWN)].escape_ascii()));
 }

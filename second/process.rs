@@ -33,9 +33,9 @@ impl Folder {
     }
 
     /// Leaves word of the case at work, for the reader of a run that hangs or dies.
-    pub fn note(&self, seed: u64, case: u64) -> io::Result<()> {
-        // Case numbers only rise, so each note covers the one before.
-        self.note.write_all_at(format!("{seed} {case}\n").as_bytes(), 0)
+    pub fn note(&self, case: &str) -> io::Result<()> {
+        self.note.set_len(0)?;
+        self.note.write_all_at(format!("{case}\n").as_bytes(), 0)
     }
 
     /// Runs a program here on what stands as `net.tsv` and a standard input, and compares what it writes.

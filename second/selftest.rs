@@ -2,6 +2,7 @@
 //! search over real stacks. Deterministic; every failure is printed, and any makes the whole fail.
 
 use crate::brute;
+use crate::examples::{run_only, spelled, EXAMPLES, LISTED_INPUT, LISTED_OUTPUT, NETWORK_A};
 use crate::generate;
 use crate::random::Random;
 use crate::reference::{Enquiry, Network, Outcome, Reference, Rooms, COUNT_OVER, STEP_LIMIT, WEIGHT_LIMIT};
@@ -13,89 +14,6 @@ const TRIED_NETWORKS: u64 = 1_500;
 const TRIED_STEPS: usize = 10;
 /// The longest routes that are tried in families where hardly any step is free.
 const LONG_STEPS: usize = 300;
-
-const NETWORK_A: &str = "\
-net 4 2
-link 10 0 1 5
-link 11 1 2 5
-link 12 2 3 5
-fun 0 conv 0 0 0
-fun 1 conv 0 1 1
-fun 1 wrap 0 1 2
-fun 2 unwrap 0 1 3
-";
-
-const NETWORK_5: &str = "\
-net 4 2
-link 1 0 0 1
-link 2 0 1 1
-link 3 1 2 1
-link 4 2 3 1
-fun 0 wrap 0 1 0
-fun 0 wrap 1 1 0
-fun 1 unwrap 1 1 0
-fun 2 unwrap 0 1 0
-";
-
-const NETWORK_6: &str = "\
-net 2 1
-link 9 0 1 3
-link 7 0 1 3
-fun 0 conv 0 0 0
-";
-
-const NETWORK_7: &str = "\
-net 3 1
-link 1 0 2 9
-link 2 0 1 4
-link 3 1 2 4
-fun 0 conv 0 0 0
-fun 1 conv 0 0 0
-";
-
-const NETWORK_8: &str = "\
-net 3 1
-link 1 0 2 8
-link 2 0 1 4
-link 3 1 2 4
-fun 0 conv 0 0 0
-fun 1 conv 0 0 0
-";
-
-const NETWORK_9: &str = "\
-net 3 3
-link 1 0 1 1
-link 2 1 2 1
-fun 0 wrap 0 1 0
-fun 1 unwrap 2 1 0
-";
-
-const NETWORK_10: &str = "\
-net 4 1
-link 1 0 1 1000000000
-link 2 1 2 1000000000
-link 3 2 3 1000000000
-fun 0 conv 0 0 1000000000
-fun 1 conv 0 0 1000000000
-fun 2 conv 0 0 1000000000
-";
-
-/// Network, S a D b, number, weight, steps, and the links of the route.
-type Example = (&'static str, [u32; 4], u32, u32, u32, &'static [u16]);
-
-const EXAMPLES: [Example; 11] = [
-    (NETWORK_A, [0, 0, 3, 0], 0, 20, 3, &[10, 11, 12]),
-    (NETWORK_A, [0, 0, 3, 1], 8, 0, 0, &[]),
-    (NETWORK_A, [3, 1, 3, 1], 0, 0, 0, &[]),
-    (NETWORK_A, [0, 0, 2, 1], 0, 11, 2, &[10, 11]),
-    (NETWORK_5, [0, 0, 3, 0], 0, 4, 4, &[1, 2, 3, 4]),
-    (NETWORK_6, [0, 0, 1, 0], 0, 3, 1, &[7]),
-    (NETWORK_7, [0, 0, 2, 0], 0, 8, 2, &[2, 3]),
-    (NETWORK_8, [0, 0, 2, 0], 0, 8, 1, &[1]),
-    (NETWORK_9, [0, 0, 2, 2], 8, 0, 0, &[]),
-    (NETWORK_10, [0, 0, 2, 0], 0, 4_000_000_000, 2, &[1, 2]),
-    (NETWORK_10, [0, 0, 3, 0], 9, 0, 0, &[]),
-];
 
 /// Counts what was checked and prints what failed.
 #[derive(Default)]
@@ -119,18 +37,13 @@ pub fn run() -> bool {
     examples(&mut checks);
     listing(&mut checks);
     rooms_of_the_listing(&mut checks);
-    run_only(&mut checks);
+    files_that_are_run(&mut checks);
     normal_order(&mut checks);
     tried_networks(&mut checks);
     tried_families(&mut checks);
     step_limit(&mut checks);
     println!("self: {} checks, {} failures", checks.made, checks.failed);
     checks.failed == 0
-}
-
-/// A text with its tabs shown as spaces.
-fn spelled(text: &str) -> Vec<u8> {
-    text.replace(' ', "\t").into_bytes()
 }
 
 /// The outcome of an enquiry with rooms for 64 places, and the rooms' contents.
@@ -177,11 +90,8 @@ fn examples(checks: &mut Checks) {
 
 fn listing(checks: &mut Checks) {
     let reference = Reference::of(&spelled(NETWORK_A));
-    let written = reference.route_program(&spelled("ask 0 0 3 0\nask 0 0 3 1\nask 3 1 3 1\n"));
-    let expected = spelled(
-        "path 20 3\nstep 10 conv 0 0 1 0\nstep 11 wrap 0 1 2 0.1\nstep 12 unwrap 0 1 3 0\nrefused 8 2\npath 0 0\n",
-    );
-    checks.check(written == expected, || format!("the listing: {}", written.escape_ascii()));
+    let written = reference.route_program(&spelled(LISTED_INPUT));
+    checks.check(written == spelled(LISTED_OUTPUT), || format!("the listing: {}", written.escape_ascii()));
     let odd = reference.route_program(b"ask\t9\t0\t0\t00\n\nask\t4\t0\t0\t0\nask\t0\t0\t0\t0");
     checks.check(odd == spelled("refused 2 1\nrefused 2 2\nrefused 6 3\nrefused 2 4\n"), || {
         format!("odd input: {}", odd.escape_ascii())
@@ -210,29 +120,10 @@ fn rooms_of_the_listing(checks: &mut Checks) {
     }
 }
 
-fn run_only(checks: &mut Checks) {
-    let mut full = String::from("net 1 1\n");
-    for number in 0..1_024 {
-        full += &format!("link {number} 0 0 0\n");
-    }
-    let cases = [
-        ("net 64 16\n".to_string(), None),
-        ("net 205 5\n".to_string(), Some((3, 1))),
-        ("net 05 1\n".to_string(), Some((2, 1))),
-        ("net 1 1\nlink 1 0 0 1000000001\n".to_string(), Some((3, 2))),
-        (full.clone(), None),
-        (format!("{full}link 5 0 0 0\n"), Some((4, 1_026))),
-        (format!("{full}link 1024 0 0 0\n"), Some((5, 1_026))),
-        (String::new(), Some((2, 1))),
-    ];
-    for (text, expected) in cases {
+fn files_that_are_run(checks: &mut Checks) {
+    for (text, expected) in run_only() {
         let found = Reference::of(&spelled(&text)).network().err().map(|refusal| (refusal.number, refusal.line));
         checks.check(found == expected, || format!("{:.40}: {found:?}, expected {expected:?}", text));
-    }
-    let sizes = [(65_536, (2, 1)), (65_537, (1, 0))];
-    for (size, expected) in sizes {
-        let found = Reference::of(&vec![b'\n'; size]).network().err().map(|refusal| (refusal.number, refusal.line));
-        checks.check(found == Some(expected), || format!("a file of {size} bytes: {found:?}"));
     }
 }
 

@@ -6,7 +6,7 @@ use native.Mathlib.Omega.{arith}
 use native.Mathlib.Decide.{decLt}
 use lib.ListN.{length, getD, set}
 use lib.Seq.{getD-set-same, getD-set-other}
-use Rattle.exits.specs.Lists.{Has, Lists, Some, Gathered}
+use Rattle.exits.specs.Lists.{Has, Lists, Some, Gathered, Ample}
 
 -- the same exits under another name
 pub lists-as : {E A : List ℕ} {len : ℕ} (Q R : ℕ → ℕ → Type 0) → ((e c : ℕ) → Q e c → R e c) → ((e c : ℕ) → R e c → Q e c) → Lists Q E A len → Lists R E A len
@@ -62,3 +62,7 @@ module _ (Q : ℕ → ℕ → ℕ → Type 0) where
 -- the end of a loop
 pub gathered-to : {Q : ℕ → ℕ → ℕ → Type 0} {E A : List ℕ} {len : ℕ} (i m : ℕ) → i ≤ m → m ≤ i → Gathered Q i E A len → Gathered Q m E A len
 gathered-to i m h k g = let e : i ≡ m = omega arith in rw e at g
+
+-- rooms of the same lengths hold as much
+pub still-ample : {E A E′ A′ : List ℕ} → Ample E A → length E′ ≡ length E → length A′ ≡ length A → Ample E′ A′
+still-ample r e a = record { places = rw e (r .places); costs = rw a (r .costs) }

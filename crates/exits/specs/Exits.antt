@@ -45,23 +45,47 @@ pub record Crossing (n p c : ℕ) (ls W C E A : List ℕ) (len x : ℕ) : Type 0
   pub square : Square (n * p) W C
   pub few : c ≤ 1024
   pub link-room : c * 4 ≤ length ls
+  pub link-from : (i : ℕ) → i < c → from ls i < n
   pub link-to : (i : ℕ) → i < c → to ls i < n
   pub protocol : x < p
   pub ranged : Ranged (n * p) E A len
 
 module _ (n p c : ℕ) (ls W C E A : List ℕ) (len x : ℕ) where
-  -- over link i from node u, and then to the level's end
+  -- over link i, and then to the level's end
+  unfoldable pub crossed : ℕ → ℕ
+  crossed i = cost (toll ls i) 1 + finishing W C E A len (place p (to ls i) x * (n * p))
+
+  -- the same, if the link leaves node u
   unfoldable pub landing : (u i : ℕ) → ℕ
-  landing u i = cond (eqb (from ls i) u) (cost (toll ls i) 1 + finishing W C E A len (place p (to ls i) x * (n * p))) far
+  landing u i = cond (eqb (from ls i) u) (crossed i) far
 
   -- over the best link from node u
   unfoldable pub lands : ℕ → ℕ
   lands u = least (landing u) c
 
-  -- function j unwraps what hides x at the place e, and k is the cost from there on
-  pub record Unwraps (fs : List ℕ) (j e k : ℕ) : Type 0 where
-    pub unwraps : kind fs j ≡ 2
-    pub hides : xOf fs j ≡ x
-    pub place-is : e ≡ place p (node fs j) (yOf fs j)
-    pub cost-is : k ≡ cost (fee fs j) 0 + lands (node fs j)
-    pub near : k < far
+  -- a number for each node: what it costs over the best of its links among the first m
+  pub record Landed (m : ℕ) (G : List ℕ) : Type 0 where
+    pub nodes : n ≤ length G
+    pub each : (u : ℕ) → u < n → getD G u 0 ≡ least (landing u) m
+
+-- function j unwraps what hides x at the place e, and k is the cost from there on, where `land` tells what it costs from a node
+pub record Unwrapping (p x : ℕ) (land : ℕ → ℕ) (fs : List ℕ) (j e k : ℕ) : Type 0 where
+  pub unwraps : kind fs j ≡ 2
+  pub hides : xOf fs j ≡ x
+  pub place-is : e ≡ place p (node fs j) (yOf fs j)
+  pub cost-is : k ≡ cost (fee fs j) 0 + land (node fs j)
+  pub near : k < far
+
+abbrev pub Unwraps : (n p c : ℕ) (ls W C E A : List ℕ) (len x : ℕ) (fs : List ℕ) → (j e k : ℕ) → Type 0
+Unwraps n p c ls W C E A len x fs = Unwrapping p x (lands n p c ls W C E A len x) fs
+
+-- what listing such exits asks, with the cost from each node in G
+pub record Closing (n p d : ℕ) (fs G O F : List ℕ) : Type 0 where
+  pub small : n * p ≤ 1024
+  pub fun-room : d * 5 ≤ length fs
+  pub fun-node : (j : ℕ) → j < d → node fs j < n
+  pub fun-y : (j : ℕ) → j < d → yOf fs j < p
+  pub nodes : n ≤ length G
+  pub most : (u : ℕ) → u < n → getD G u 0 ≤ far
+  pub places-room : d ≤ length O
+  pub costs-room : d ≤ length F

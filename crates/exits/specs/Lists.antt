@@ -35,6 +35,11 @@ pub record Ranged (size : ℕ) (E A : List ℕ) (len : ℕ) : Type 0 where
   pub place-below : (i : ℕ) → i < len → getD E i 0 < size
   pub cost-below : (i : ℕ) → i < len → getD A i 0 ≤ far
 
+-- rooms that hold any list of exits
+pub record Ample (E A : List ℕ) : Type 0 where
+  pub places : 1024 ≤ length E
+  pub costs : 1024 ≤ length A
+
 -- from the place whose row of the tables begins at entry `row`, over the best of the exits
 unfoldable pub finishing : (W C E A : List ℕ) (len row : ℕ) → ℕ
 finishing W C E A len row = least (λ i. toldAt W C (row + getD E i 0) + getD A i 0) len

@@ -1,11 +1,11 @@
 // The exits of a tunnel that may be opened from a level: the places where something unwraps what hides x, each with the least cost from there on.
 ghost use mathlib.Core.Path.{_≡_};
-ghost use Prim.Native.Nat.{_+_, _*_, _<_, _≤_};
-ghost use lib.ListN.{length};
+ghost use Prim.Native.Nat.{_+_, _*_, _<_, _≤_, min};
+ghost use lib.ListN.{length, getD, set};
 ghost use Rattle.records.specs.Valid.{Valid};
 ghost use Rattle.exits.specs.Cost.{far};
-ghost use Rattle.exits.specs.Lists.{Lists, Some, Gathered};
-ghost use Rattle.exits.specs.Exits.{Crossing, landing, lands, Unwraps};
+ghost use Rattle.exits.specs.Lists.{Gathered};
+ghost use Rattle.exits.specs.Exits.{Crossing, crossed, Landed, Closing, Unwrapping, Unwraps};
 use crate::costs::FAR;
 use crate::costs::cost_of;
 use crate::costs::row_of;
@@ -22,8 +22,8 @@ use records::link_from;
 use records::link_to;
 use records::link_weight;
 
-// Over link i, if it leaves node u, and then to the level's end.
-fn over_link(
+// Over link i, and then to the level's end.
+fn cross(
     links: &[u32],
     c: usize,
     n: usize,
@@ -34,15 +34,11 @@ fn over_link(
     costs: &[u64],
     len: usize,
     x: usize,
-    u: usize,
     i: usize,
 ) -> u64
     requires { ⌜ (i < c) × Crossing n p c (now links) (now weight) (now count) (now exits) (now costs) len x ⌝ }
-    ensures { λ r. ⌜ r ≡ landing n p c (now (links .entry)) (now (weight .entry)) (now (count .entry)) (now (exits .entry)) (now (costs .entry)) len x u i ⌝ }
+    ensures { λ r. ⌜ r ≡ crossed n p c (now (links .entry)) (now (weight .entry)) (now (count .entry)) (now (exits .entry)) (now (costs .entry)) len x i ⌝ }
 {
-    if link_from(links, i) != u {
-        return FAR;
-    }
     let place = Place {
         node: link_to(links, i),
         protocol: x,
@@ -51,7 +47,14 @@ fn over_link(
     cost_of(link_weight(links, i), 1) + finish(weight, count, exits, costs, len, n * p, row)
 }
 
-// Over the best link that leaves node u.
+fn lower(lands: &mut [u64], u: usize, cost: u64)
+    requires { ⌜ u < length (now lands) ⌝ }
+    ensures { λ _. ⌜ now (lands .exit) ≡ set (now (lands .entry)) u (min (getD (now (lands .entry)) u 0) cost) ⌝ }
+{
+    lands[u] = smaller(lands[u], cost);
+}
+
+// Link i, for the node that it leaves.
 fn land(
     links: &[u32],
     c: usize,
@@ -63,29 +66,20 @@ fn land(
     costs: &[u64],
     len: usize,
     x: usize,
-    u: usize,
-) -> u64
-    requires { ⌜ Crossing n p c (now links) (now weight) (now count) (now exits) (now costs) len x ⌝ }
-    ensures { λ r. ⌜ (r ≡ lands n p c (now (links .entry)) (now (weight .entry)) (now (count .entry)) (now (exits .entry)) (now (costs .entry)) len x u) × (r ≤ far) ⌝ }
+    i: usize,
+    lands: &mut [u64],
+)
+    requires { ⌜ (i < c) × Crossing n p c (now links) (now weight) (now count) (now exits) (now costs) len x × Landed n p c (now links) (now weight) (now count) (now exits) (now costs) len x i (now lands) ⌝ }
+    ensures { λ _. ⌜ Landed n p c (now (links .entry)) (now (weight .entry)) (now (count .entry)) (now (exits .entry)) (now (costs .entry)) len x (i + 1) (now (lands .exit)) ⌝ }
 {
-    let mut best = FAR;
-    let mut i = 0;
-    while i < c {
-        best = smaller(
-            best,
-            over_link(links, c, n, p, weight, count, exits, costs, len, x, u, i),
-        );
-        i += 1;
-    }
-    best
+    let cost = cross(links, c, n, p, weight, count, exits, costs, len, x, i);
+    lower(lands, link_from(links, i), cost);
 }
 
-// Function j, if it unwraps what hides x.
-fn list_fun(
+// Over the best link of each node: every link is crossed once, however many functions unwrap there.
+fn land_all(
     links: &[u32],
     c: usize,
-    funs: &[u32],
-    d: usize,
     n: usize,
     p: usize,
     weight: &[u32],
@@ -94,14 +88,54 @@ fn list_fun(
     costs: &[u64],
     len: usize,
     x: usize,
+    lands: &mut [u64],
+)
+    requires { ⌜ Crossing n p c (now links) (now weight) (now count) (now exits) (now costs) len x × Landed n p c (now links) (now weight) (now count) (now exits) (now costs) len x 0 (now lands) ⌝ }
+    ensures { λ _. ⌜ Landed n p c (now (links .entry)) (now (weight .entry)) (now (count .entry)) (now (exits .entry)) (now (costs .entry)) len x c (now (lands .exit)) ⌝ }
+{
+    let mut i = 0;
+    while i < c {
+        land(
+            links,
+            c,
+            n,
+            p,
+            weight,
+            count,
+            exits,
+            costs,
+            len,
+            x,
+            i,
+            lands,
+        );
+        i += 1;
+    }
+}
+
+fn land_at(lands: &[u64], u: usize) -> u64
+    requires { ⌜ (u < length (now lands)) × (getD (now lands) u 0 ≤ far) ⌝ }
+    ensures { λ r. ⌜ (r ≡ getD (now (lands .entry)) u 0) × (r ≤ far) ⌝ }
+{
+    lands[u]
+}
+
+// Function j, if it unwraps what hides x.
+fn list_fun(
+    funs: &[u32],
+    d: usize,
+    n: usize,
+    p: usize,
+    lands: &[u64],
+    x: usize,
     j: usize,
     outs: &mut [u16],
     fees: &mut [u64],
     m: usize,
 ) -> usize
-    requires { ⌜ Valid n p c (now links) d (now funs) × Crossing n p c (now links) (now weight) (now count) (now exits) (now costs) len x × (d ≤ length (now outs)) × (d ≤ length (now fees)) ⌝ }
-    requires { ⌜ (j < d) × Gathered (Unwraps n p c (now links) (now weight) (now count) (now exits) (now costs) len x (now funs)) j (now outs) (now fees) m ⌝ }
-    ensures { λ r. ⌜ Gathered (Unwraps n p c (now (links .entry)) (now (weight .entry)) (now (count .entry)) (now (exits .entry)) (now (costs .entry)) len x (now (funs .entry))) (j + 1) (now (outs .exit)) (now (fees .exit)) r ⌝ }
+    requires { ⌜ Closing n p d (now funs) (now lands) (now outs) (now fees) ⌝ }
+    requires { ⌜ (j < d) × Gathered (Unwrapping p x (λ u. getD (now lands) u 0) (now funs)) j (now outs) (now fees) m ⌝ }
+    ensures { λ r. ⌜ Gathered (Unwrapping p x (λ u. getD (now (lands .entry)) u 0) (now (funs .entry))) (j + 1) (now (outs .exit)) (now (fees .exit)) r ⌝ }
 {
     if fun_kind(funs, j) != 2 {
         return m;
@@ -110,8 +144,7 @@ fn list_fun(
         return m;
     }
     let u = fun_node(funs, j);
-    let cost = cost_of(fun_weight(funs, j), 0)
-        + land(links, c, n, p, weight, count, exits, costs, len, x, u);
+    let cost = cost_of(fun_weight(funs, j), 0) + land_at(lands, u);
     if FAR <= cost {
         return m;
     }
@@ -120,6 +153,28 @@ fn list_fun(
         protocol: fun_y(funs, j),
     };
     add_exit(outs, fees, m, place.number(n, p), cost)
+}
+
+fn list_funs(
+    funs: &[u32],
+    d: usize,
+    n: usize,
+    p: usize,
+    lands: &[u64],
+    x: usize,
+    outs: &mut [u16],
+    fees: &mut [u64],
+) -> usize
+    requires { ⌜ Closing n p d (now funs) (now lands) (now outs) (now fees) ⌝ }
+    ensures { λ r. ⌜ Gathered (Unwrapping p x (λ u. getD (now (lands .entry)) u 0) (now (funs .entry))) d (now (outs .exit)) (now (fees .exit)) r ⌝ }
+{
+    let mut m = 0;
+    let mut j = 0;
+    while j < d {
+        m = list_fun(funs, d, n, p, lands, x, j, outs, fees, m);
+        j += 1;
+    }
+    m
 }
 
 // The exits of a tunnel over x, opened from the level whose exits are listed.
@@ -142,28 +197,19 @@ pub fn list_tunnel(
     requires { ⌜ Valid n p c (now links) d (now funs) × Crossing n p c (now links) (now weight) (now count) (now exits) (now costs) len x × (d ≤ length (now outs)) × (d ≤ length (now fees)) ⌝ }
     ensures { λ r. ⌜ Gathered (Unwraps n p c (now (links .entry)) (now (weight .entry)) (now (count .entry)) (now (exits .entry)) (now (costs .entry)) len x (now (funs .entry))) d (now (outs .exit)) (now (fees .exit)) r ⌝ }
 {
-    let mut m = 0;
-    let mut j = 0;
-    while j < d {
-        m = list_fun(
-            links,
-            c,
-            funs,
-            d,
-            n,
-            p,
-            weight,
-            count,
-            exits,
-            costs,
-            len,
-            x,
-            j,
-            outs,
-            fees,
-            m,
-        );
-        j += 1;
-    }
-    m
+    let mut lands = [FAR; 256];
+    land_all(
+        links,
+        c,
+        n,
+        p,
+        weight,
+        count,
+        exits,
+        costs,
+        len,
+        x,
+        &mut lands,
+    );
+    list_funs(funs, d, n, p, &lands, x, outs, fees)
 }

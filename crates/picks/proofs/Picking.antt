@@ -14,13 +14,13 @@ use Rattle.laws.proofs.Nest.{nest-begun}
 use Rattle.laws.proofs.Unfold.{passes-hop, some-passes}
 use Rattle.records.specs.Columns.{hopOf}
 use Rattle.records.specs.Valid.{Valid}
-use Rattle.records.proofs.Links.{found, steps-inside}
+use Rattle.records.proofs.Links.{found, kind-is, steps-inside}
 use Rattle.frames.specs.Frames.{wordsFor, heldAt}
 use Rattle.exits.specs.Cost.{table}
-use Rattle.picks.specs.Pick.{Trial, trial, keyOf, Better, Any, ByFun, ByLevel, ByTunnel}
+use Rattle.picks.specs.Pick.{Trial, trial, keyOf, Better, Any, ByFun, ByLevel, ByTunnel, topOf}
 use Rattle.picks.specs.Contract.{Taken}
 use Rattle.picks.proofs.Better.{better-then}
-use Rattle.picks.proofs.Pass.{any-tried, tried-any}
+use Rattle.picks.proofs.Pass.{served-serves, any-tried, tried-any}
 use Rattle.picks.proofs.Ways.{Way, conv-way, conv-tried, unwrap-way, unwrap-tried, wrap-way, wrap-tried}
 
 -- what the search begins with: a key behind every other
@@ -114,7 +114,7 @@ module _ (n p c : ℕ) (ls : List ℕ) (d : ℕ) (fs W C : List ℕ) (D b : ℕ)
 
     own-way : (s : Trial) → Convs s ⊎ Wraps s → Way hop n p t (at o) gs v x w m s
     own-way s (inl y) = conv-way n p c ls d fs W C D b valid exact L o (l .lists) (state .nest) (any-tried n p c ls d fs W C (l .E) (l .A) (l .len) v x w m 0 0 some-left (few-left state) y)
-    own-way s (inr y) = wrap-way n p c ls d fs W C D b valid exact L o (state .nest) (q .outward) (any-tried n p c ls d fs W C (q .O) (q .F) (q .len) v x w m 1 0 some-left (few-left state) y)
+    own-way s (inr y) = wrap-way n p c ls d fs W C D b valid exact L o (state .nest) (q .outward (y .at) (y .below) (y .is .serving)) (any-tried n p c ls d fs W C (q .O) (q .F) (q .len) v x w m 1 0 some-left (few-left state) y)
 
     own-better : Better (λ s. Convs s ⊎ Wraps s) nothing s₂
     own-better = better-then (λ s y. y) (λ s y. inl y) (λ s y. inr y) (l .better) (q .better)
@@ -124,8 +124,11 @@ module _ (n p c : ℕ) (ls : List ℕ) (d : ℕ) (fs W C : List ℕ) (D b : ℕ)
         tried-any n p c ls d fs W C (l .E) (l .A) (l .len) v x w m 0 0 (conv-tried n p c ls d fs W C D b valid exact L o (l .lists) (state .nest) lk r z cw u j h pw pm ok)
 
     wrap-own : {r z u j : ℕ} (lk cw : ℕ) → hop (key lk wrap x z) v ≡ some (r, cw) → w ≡ cw + u → m ≡ suc j → Opened hop n p t (at o) x r z u j → Wraps (trial (flat (key lk wrap x z ∷ [])) r z u j)
+    unfolding topOf
     wrap-own {r} {z} {u} {j} lk cw h pw pm op =
-        tried-any n p c ls d fs W C (q .O) (q .F) (q .len) v x w m 1 0 (wrap-tried n p c ls d fs W C D b valid exact L o (state .nest) (q .outward) lk r z cw u j h pw pm op)
+        let g = found n p c ls d fs valid lk wrap x z v r cw h in
+        let wraps = served-serves fs v 1 x 0 (g .j) (record { at-node = g .at-node; of-kind = kind-is n p c ls d fs valid wrap (g .j) (g .of-fun) (g .has-kind); on-top = g .has-x; beneath = λ e. absurd (omega arith) }) in
+        tried-any n p c ls d fs W C (q .O) (q .F) (q .len) v x w m 1 0 (wrap-tried n p c ls d fs W C D b valid exact L o (state .nest) (q .outward (g .j) (g .of-fun) wraps) lk r z cw u j h pw pm op)
 
   -- at the bottom there is nothing to unwrap
   pub bottom-better : (o : ℕ) {v x w m : ℕ} (state : State hop n p t D b (at o) [] v x w m) → 0 < m → {s₁ s₂ : Trial} → ByLevel n p c ls d fs W C L o v x w m 0 0 nothing s₁

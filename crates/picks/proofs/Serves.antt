@@ -45,6 +45,7 @@ trying {p = p} {fs = fs} k j w z s h ew ez =
         square = s .square;
         few = s .valid .few-links;
         link-room = s .valid .link-room;
+        link-from = s .valid .link-from;
         link-to = s .valid .link-to;
         protocol = rw ez (next-lt fs k j p (s .valid .fun-x j h) (s .valid .fun-y j h));
         ranged = s .ranged;

@@ -101,10 +101,10 @@ pub record Outward (n p c : ℕ) (ls : List ℕ) (d : ℕ) (fs W C L : List ℕ)
   pub gathered : Gathered (Unwraps n p c ls W C E A len x fs) d O F len′
   pub ranged : Ranged (n * p) O F len′
 
--- the better of b and the wraps that open a tunnel from it
+-- the better of b and the wraps that open a tunnel from it; the tunnel's exits are listed if there is a wrap at all
 pub record ByTunnel (n p c : ℕ) (ls : List ℕ) (d : ℕ) (fs W C L : List ℕ) (o v x w m : ℕ) (b r : Trial) : Type 0 where
   pub O : List ℕ
   pub F : List ℕ
   pub len : ℕ
-  pub outward : Outward n p c ls d fs W C L o x O F len
+  pub outward : (j : ℕ) → j < d → serves fs v 1 x 0 j ≡ true → Outward n p c ls d fs W C L o x O F len
   pub better : Better (Any (ByFun n p c ls fs W C O F len v x w m 1 0) d) b r

@@ -42,9 +42,11 @@ fn suits(funs: &[u32], v: usize, kind: usize, x: usize, hidden: usize, j: usize)
     requires { ⌜ j * 5 + 5 ≤ length (now funs) ⌝ }
     ensures { λ r. ⌜ r ≡ serves (now (funs .entry)) v kind x hidden j ⌝ }
 {
-    (fun_node(funs, j) == v)
-        & ((fun_kind(funs, j) == kind)
-            & ((top_of(funs, kind, j) == x) & ((kind != 2) | (fun_x(funs, j) == hidden))))
+    if fun_node(funs, j) != v {
+        return false;
+    }
+    (fun_kind(funs, j) == kind)
+        & ((top_of(funs, kind, j) == x) & ((kind != 2) | (fun_x(funs, j) == hidden)))
 }
 
 // Function j, of a kind, as it is used.

@@ -3,12 +3,14 @@ ghost use mathlib.Core.Path.{_≡_};
 ghost use Prim.Native.Nat.{_*_, _<_, _≤_};
 ghost use lib.ListN.{length};
 ghost use Rattle.frames.specs.Frames.{wordsFor};
+ghost use Rattle.exits.specs.Lists.{Ample};
 ghost use Rattle.picks.specs.Pick.{trial, Looking, ByLevel, Outward, ByTunnel};
 use crate::funs::try_funs;
 use crate::steps::Spot;
 use crate::steps::Step;
 use exits::levels::list_level;
 use exits::tunnels::list_tunnel;
+use scan::next_fun;
 
 // The words that hold a bit for each place.
 pub fn words_for(size: usize) -> usize
@@ -34,12 +36,12 @@ pub fn look_level(
     kind: usize,
     hidden: usize,
     best: Step,
+    exits: &mut [u16],
+    costs: &mut [u64],
 ) -> Step
-    requires { ⌜ (kind < 3) × Looking n p c (now links) d (now funs) (now weight) (now count) (now choice) o (at .left) ⌝ }
+    requires { ⌜ (kind < 3) × Looking n p c (now links) d (now funs) (now weight) (now count) (now choice) o (at .left) × Ample (now exits) (now costs) ⌝ }
     ensures { λ r. ⌜ ByLevel n p c (now (links .entry)) d (now (funs .entry)) (now (weight .entry)) (now (count .entry)) (now (choice .entry)) o (at .node) (at .protocol) (at .weight) (at .left) kind hidden (trial (best .key) (best .to .node) (best .to .protocol) (best .to .weight) (best .to .left)) (trial (r .key) (r .to .node) (r .to .protocol) (r .to .weight) (r .to .left)) ⌝ }
 {
-    let mut exits = [0u16; 1024];
-    let mut costs = [0u64; 1024];
     let len = list_level(
         choice,
         o,
@@ -47,8 +49,8 @@ pub fn look_level(
         weight,
         count,
         n * p,
-        &mut exits,
-        &mut costs,
+        exits,
+        costs,
     );
     try_funs(
         links,
@@ -59,8 +61,8 @@ pub fn look_level(
         p,
         weight,
         count,
-        &exits,
-        &costs,
+        exits,
+        costs,
         len,
         at,
         kind,
@@ -83,14 +85,14 @@ pub fn list_outward(
     o: usize,
     left: u16,
     x: usize,
+    exits: &mut [u16],
+    costs: &mut [u64],
     outs: &mut [u16],
     fees: &mut [u64],
 ) -> usize
-    requires { ⌜ (x < p) × (1024 ≤ length (now outs)) × (1024 ≤ length (now fees)) × Looking n p c (now links) d (now funs) (now weight) (now count) (now choice) o left ⌝ }
+    requires { ⌜ (x < p) × Looking n p c (now links) d (now funs) (now weight) (now count) (now choice) o left × Ample (now exits) (now costs) × Ample (now outs) (now fees) ⌝ }
     ensures { λ r. ⌜ Outward n p c (now (links .entry)) d (now (funs .entry)) (now (weight .entry)) (now (count .entry)) (now (choice .entry)) o x (now (outs .exit)) (now (fees .exit)) r ⌝ }
 {
-    let mut exits = [0u16; 1024];
-    let mut costs = [0u64; 1024];
     let len = list_level(
         choice,
         o,
@@ -98,8 +100,8 @@ pub fn list_outward(
         weight,
         count,
         n * p,
-        &mut exits,
-        &mut costs,
+        exits,
+        costs,
     );
     list_tunnel(
         links,
@@ -110,8 +112,8 @@ pub fn list_outward(
         p,
         weight,
         count,
-        &exits,
-        &costs,
+        exits,
+        costs,
         len,
         x,
         outs,
@@ -133,12 +135,17 @@ pub fn look_tunnel(
     o: usize,
     at: Spot,
     best: Step,
+    exits: &mut [u16],
+    costs: &mut [u64],
+    outs: &mut [u16],
+    fees: &mut [u64],
 ) -> Step
-    requires { ⌜ (at .protocol < p) × Looking n p c (now links) d (now funs) (now weight) (now count) (now choice) o (at .left) ⌝ }
+    requires { ⌜ (at .protocol < p) × Looking n p c (now links) d (now funs) (now weight) (now count) (now choice) o (at .left) × Ample (now exits) (now costs) × Ample (now outs) (now fees) ⌝ }
     ensures { λ r. ⌜ ByTunnel n p c (now (links .entry)) d (now (funs .entry)) (now (weight .entry)) (now (count .entry)) (now (choice .entry)) o (at .node) (at .protocol) (at .weight) (at .left) (trial (best .key) (best .to .node) (best .to .protocol) (best .to .weight) (best .to .left)) (trial (r .key) (r .to .node) (r .to .protocol) (r .to .weight) (r .to .left)) ⌝ }
 {
-    let mut outs = [0u16; 1024];
-    let mut fees = [0u64; 1024];
+    if next_fun(funs, d, 0, at.node, 1, at.protocol) == d {
+        return best;
+    }
     let len = list_outward(
         links,
         c,
@@ -152,8 +159,10 @@ pub fn look_tunnel(
         o,
         at.left,
         at.protocol,
-        &mut outs,
-        &mut fees,
+        exits,
+        costs,
+        outs,
+        fees,
     );
     try_funs(
         links,
@@ -164,8 +173,8 @@ pub fn look_tunnel(
         p,
         weight,
         count,
-        &outs,
-        &fees,
+        outs,
+        fees,
         len,
         at,
         1,

@@ -1,6 +1,7 @@
 // The record of a tunnel that is opened: its exits are those over which what is left is met.
 ghost use Prim.Native.Nat.{_*_, _<_};
 ghost use Rattle.frames.specs.Frames.{wordsFor, Kept};
+ghost use Rattle.exits.specs.Lists.{Ample};
 ghost use Rattle.picks.specs.Contract.{Records};
 ghost use Rattle.picks.specs.Opening.{Adds, Meets, MeetsOne, Marking, Opening, Writing, Written};
 use crate::looks::list_outward;
@@ -136,14 +137,16 @@ pub fn open(
     k: usize,
     at: Spot,
     to: Spot,
+    exits: &mut [u16],
+    costs: &mut [u64],
+    outs: &mut [u16],
+    fees: &mut [u64],
 )
-    requires { ⌜ Opening n p c (now links) d (now funs) (now weight) (now count) (end .node) (end .protocol) (now choice) k (at .node) (at .protocol) (at .weight) (at .left) (to .node) (to .protocol) (to .weight) (to .left) ⌝ }
+    requires { ⌜ Opening n p c (now links) d (now funs) (now weight) (now count) (end .node) (end .protocol) (now choice) k (at .node) (at .protocol) (at .weight) (at .left) (to .node) (to .protocol) (to .weight) (to .left) × Ample (now exits) (now costs) × Ample (now outs) (now fees) ⌝ }
     ensures { λ _. ⌜ Kept p (wordsFor (n * p)) k (now (choice .entry)) (now (choice .exit)) × Records n p c (now (links .entry)) d (now (funs .entry)) (now (weight .entry)) (now (count .entry)) (end .node) (end .protocol) (now (choice .exit)) k (at .protocol) (to .node) (to .protocol) (to .weight) (to .left) ⌝ }
 {
     let words = words_for(n * p);
     let o = (words + 5) * k;
-    let mut outs = [0u16; 1024];
-    let mut fees = [0u64; 1024];
     let len = list_outward(
         links,
         c,
@@ -157,16 +160,18 @@ pub fn open(
         o,
         at.left,
         at.protocol,
-        &mut outs,
-        &mut fees,
+        exits,
+        costs,
+        outs,
+        fees,
     );
     write_record(
         weight,
         count,
         n,
         p,
-        &outs,
-        &fees,
+        outs,
+        fees,
         len,
         choice,
         o + (words + 5),

@@ -5,6 +5,7 @@ ghost use Prim.Native.Nat.{_*_, _<_};
 ghost use Rattle.records.specs.Columns.{hopOf};
 ghost use Rattle.frames.specs.Frames.{wordsFor, held, below};
 ghost use Rattle.exits.specs.Cost.{table};
+ghost use Rattle.exits.specs.Lists.{Ample};
 ghost use Rattle.picks.specs.Contract.{Taken, Stands};
 use crate::looks::look_level;
 use crate::looks::look_tunnel;
@@ -45,8 +46,12 @@ pub fn pick(
     end: Place,
     k: usize,
     at: Spot,
+    exits: &mut [u16],
+    costs: &mut [u64],
+    outs: &mut [u16],
+    fees: &mut [u64],
 ) -> Step
-    requires { ⌜ (0 < at .left) × Stands n p c (now links) d (now funs) (now weight) (now count) (end .node) (end .protocol) (now choice) k (at .node) (at .protocol) (at .weight) (at .left) ⌝ }
+    requires { ⌜ (0 < at .left) × Stands n p c (now links) d (now funs) (now weight) (now count) (end .node) (end .protocol) (now choice) k (at .node) (at .protocol) (at .weight) (at .left) × Ample (now exits) (now costs) × Ample (now outs) (now fees) ⌝ }
     ensures { λ r. ⌜ Taken (hopOf n p c (now (links .entry)) d (now (funs .entry))) n p (table n p (now (weight .entry)) (now (count .entry))) (held p (wordsFor (n * p)) (now (choice .entry)) k) (below p (wordsFor (n * p)) (now (choice .entry)) k) (at .node) (at .protocol) (at .weight) (at .left) (r .key) (r .to .node) (r .to .protocol) (r .to .weight) (r .to .left) ⌝ }
 {
     let words = words_for(n * p);
@@ -66,8 +71,27 @@ pub fn pick(
         0,
         0,
         nothing(),
+        exits,
+        costs,
     );
-    let into = look_tunnel(links, c, funs, d, n, p, weight, count, choice, o, at, on);
+    let into = look_tunnel(
+        links,
+        c,
+        funs,
+        d,
+        n,
+        p,
+        weight,
+        count,
+        choice,
+        o,
+        at,
+        on,
+        exits,
+        costs,
+        outs,
+        fees,
+    );
     if k == 0 {
         return into;
     }
@@ -87,5 +111,7 @@ pub fn pick(
         2,
         hidden,
         into,
+        exits,
+        costs,
     )
 }

@@ -30,11 +30,15 @@ pub fn next_link(links: &[u32], c: usize, i: usize, v: usize) -> usize
     k
 }
 
+// The node is compared first: most functions are another node's.
 fn is_for(funs: &[u32], j: usize, v: usize, kind: usize, x: usize) -> bool
     requires { ⌜ j * 5 + 5 ≤ length (now funs) ⌝ }
     ensures { λ r. ⌜ r ≡ suits (now (funs .entry)) v kind x j ⌝ }
 {
-    (fun_node(funs, j) == v) & ((fun_kind(funs, j) == kind) & (fun_x(funs, j) == x))
+    if fun_node(funs, j) != v {
+        return false;
+    }
+    (fun_kind(funs, j) == kind) & (fun_x(funs, j) == x)
 }
 
 // The first of the d functions, from function j on, of node v, of this kind, for the protocol x; d where there is none.

@@ -16,6 +16,13 @@ use Rattle.frames.specs.Frames.{wordsFor, held, below, Kept}
 use Rattle.exits.specs.Cost.{table}
 use Rattle.picks.specs.Contract.{Stands}
 
+-- rooms of lists, as long as they were
+pub record Lent (E A O F E′ A′ O′ F′ : List ℕ) : Type 0 where
+  pub exits : length E′ ≡ length E
+  pub costs : length A′ ≡ length A
+  pub outs : length O′ ≡ length O
+  pub fees : length F′ ≡ length F
+
 module _ (n p c : ℕ) (ls : List ℕ) (d : ℕ) (fs W C : List ℕ) (D b total : ℕ) where
   -- where both are called: level k is the inmost; at v with x on top w, m are left
   pub record Asks (L Q : List ℕ) (k v x w m : ℕ) : Type 0 where

@@ -3,6 +3,7 @@ ghost use mathlib.Core.Path.{_≡_};
 ghost use Prim.Native.Nat.{_+_, _*_, _<_, _≤_};
 ghost use lib.ListN.{length};
 ghost use Rattle.frames.specs.Frames.{wordsFor};
+ghost use Rattle.exits.specs.Lists.{Ample};
 ghost use Rattle.unfold.specs.Unfolded.{Unfolds, Route, Bottomed};
 use crate::levels::level;
 use exits::costs::row_of;
@@ -51,8 +52,12 @@ pub fn write_route(
     steps: &mut [u16],
     start: Place,
     end: Place,
+    exits: &mut [u16],
+    costs: &mut [u64],
+    outs: &mut [u16],
+    fees: &mut [u64],
 )
-    requires { ⌜ Unfolds n p c (now links) d (now funs) (now weight) (now count) (start .node) (start .protocol) (end .node) (end .protocol) (now choice) (now steps) ⌝ }
+    requires { ⌜ Unfolds n p c (now links) d (now funs) (now weight) (now count) (start .node) (start .protocol) (end .node) (end .protocol) (now choice) (now steps) × Ample (now exits) (now costs) × Ample (now outs) (now fees) ⌝ }
     ensures { λ _. ⌜ Route n p c (now (links .entry)) d (now (funs .entry)) (now (weight .entry)) (now (count .entry)) (start .node) (start .protocol) (end .node) (end .protocol) (now (steps .entry)) (now (steps .exit)) ⌝ }
 {
     let entry = row_of(n * p, start.number(n, p)) + end.number(n, p);
@@ -80,5 +85,9 @@ pub fn write_route(
         total,
         0,
         at,
+        exits,
+        costs,
+        outs,
+        fees,
     );
 }

@@ -1,4 +1,4 @@
-// Level and tunnel unfolding, which call each other; what is left of the steps falls.
+// Level and tunnel unfolding, which call each other; what is left of the steps falls. The rooms of the lists are lent, so that a tunnel's frame stays small.
 ghost use mathlib.Core.Path.{_≡_};
 ghost use Prim.Native.Nat.{_+_, _*_, _≤_};
 ghost use lib.ListN.{length, getD};
@@ -6,6 +6,7 @@ ghost use Rattle.paper.specs.Rooms.{laid};
 ghost use Rattle.records.specs.Columns.{hopOf};
 ghost use Rattle.frames.specs.Frames.{wordsFor, held, below};
 ghost use Rattle.exits.specs.Cost.{table};
+ghost use Rattle.exits.specs.Lists.{Ample};
 ghost use Rattle.picks.specs.Contract.{Taken};
 ghost use Rattle.unfold.specs.Contract.{Asks, LevelEnsures, TunnelEnsures};
 use paper::place::Place;
@@ -47,13 +48,34 @@ pub fn level(
     total: u16,
     k: usize,
     at: Spot,
+    exits: &mut [u16],
+    costs: &mut [u64],
+    outs: &mut [u16],
+    fees: &mut [u64],
 ) -> Spot
-    requires { ⌜ Asks n p c (now links) d (now funs) (now weight) (now count) (end .node) (end .protocol) total (now choice) (now steps) k (at .node) (at .protocol) (at .weight) (at .left) ⌝ }
+    requires { ⌜ Asks n p c (now links) d (now funs) (now weight) (now count) (end .node) (end .protocol) total (now choice) (now steps) k (at .node) (at .protocol) (at .weight) (at .left) × Ample (now exits) (now costs) × Ample (now outs) (now fees) ⌝ }
     ensures { λ r. ⌜ LevelEnsures n p c (now (links .entry)) d (now (funs .entry)) (now (weight .entry)) (now (count .entry)) (end .node) (end .protocol) total (now (choice .entry)) (now (choice .exit)) (now (steps .entry)) (now (steps .exit)) k (at .node) (at .protocol) (at .weight) (at .left) (r .node) (r .weight) (r .left) ⌝ }
 {
     let mut here = at;
     while 0 < here.left {
-        let s = pick(links, c, funs, d, n, p, weight, count, choice, end, k, here);
+        let s = pick(
+            links,
+            c,
+            funs,
+            d,
+            n,
+            p,
+            weight,
+            count,
+            choice,
+            end,
+            k,
+            here,
+            exits,
+            costs,
+            outs,
+            fees,
+        );
         let key = s.key;
         let kind = key[1];
         if kind == 1 {
@@ -73,6 +95,10 @@ pub fn level(
                 k,
                 here,
                 s,
+                exits,
+                costs,
+                outs,
+                fees,
             );
         } else {
             put(steps, index(total - here.left), key);
@@ -102,8 +128,12 @@ pub fn tunnel(
     k: usize,
     at: Spot,
     s: Step,
+    exits: &mut [u16],
+    costs: &mut [u64],
+    outs: &mut [u16],
+    fees: &mut [u64],
 ) -> Spot
-    requires { ⌜ Asks n p c (now links) d (now funs) (now weight) (now count) (end .node) (end .protocol) total (now choice) (now steps) k (at .node) (at .protocol) (at .weight) (at .left) × (getD (s .key) 1 0 ≡ 1) × Taken (hopOf n p c (now links) d (now funs)) n p (table n p (now weight) (now count)) (held p (wordsFor (n * p)) (now choice) k) (below p (wordsFor (n * p)) (now choice) k) (at .node) (at .protocol) (at .weight) (at .left) (s .key) (s .to .node) (s .to .protocol) (s .to .weight) (s .to .left) ⌝ }
+    requires { ⌜ Asks n p c (now links) d (now funs) (now weight) (now count) (end .node) (end .protocol) total (now choice) (now steps) k (at .node) (at .protocol) (at .weight) (at .left) × (getD (s .key) 1 0 ≡ 1) × Taken (hopOf n p c (now links) d (now funs)) n p (table n p (now weight) (now count)) (held p (wordsFor (n * p)) (now choice) k) (below p (wordsFor (n * p)) (now choice) k) (at .node) (at .protocol) (at .weight) (at .left) (s .key) (s .to .node) (s .to .protocol) (s .to .weight) (s .to .left) × Ample (now exits) (now costs) × Ample (now outs) (now fees) ⌝ }
     ensures { λ r. ⌜ (r .protocol ≡ at .protocol) × TunnelEnsures n p c (now (links .entry)) d (now (funs .entry)) (now (weight .entry)) (now (count .entry)) (end .node) (end .protocol) total (now (choice .entry)) (now (choice .exit)) (now (steps .entry)) (now (steps .exit)) k (at .node) (at .protocol) (at .weight) (at .left) (r .node) (r .weight) (r .left) ⌝ }
 {
     let key = s.key;
@@ -123,6 +153,10 @@ pub fn tunnel(
         k,
         at,
         to,
+        exits,
+        costs,
+        outs,
+        fees,
     );
     let back = level(
         links,
@@ -139,6 +173,10 @@ pub fn tunnel(
         total,
         k + 1,
         to,
+        exits,
+        costs,
+        outs,
+        fees,
     );
     Spot {
         node: back.node,

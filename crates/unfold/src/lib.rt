@@ -26,6 +26,10 @@ pub fn unfold(
     ensures { λ _. ⌜ Unfolded n p c (now (links .entry)) d (now (funs .entry)) (now (weight .entry)) (now (count .entry)) (start .node) (start .protocol) (end .node) (end .protocol) (now (choice .entry)) (now (choice .exit)) (now (steps .entry)) (now (steps .exit)) ⌝ }
 {
     let room = 8 * (n * p * (n * p));
+    let mut exits = [0u16; 1024];
+    let mut costs = [0u64; 1024];
+    let mut outs = [0u16; 1024];
+    let mut fees = [0u64; 1024];
     write_route(
         links,
         c,
@@ -39,6 +43,10 @@ pub fn unfold(
         steps,
         start,
         end,
+        &mut exits,
+        &mut costs,
+        &mut outs,
+        &mut fees,
     );
     clear(choice, 0, room);
 }

@@ -28,8 +28,22 @@ part-write-route-start c = search needs
 part-write-route-end : tie.Need-part-write-route-end
 part-write-route-end c = search needs
 
+slice-aggregate-write-route : tie.Need-slice-aggregate-write-route
+slice-aggregate-write-route c = search needs
+
+slice-aggregate-write-route-2 : tie.Need-slice-aggregate-write-route-2
+slice-aggregate-write-route-2 c = search needs
+
+slice-aggregate-write-route-3 : tie.Need-slice-aggregate-write-route-3
+slice-aggregate-write-route-3 c = search needs
+
+slice-aggregate-write-route-4 : tie.Need-slice-aggregate-write-route-4
+slice-aggregate-write-route-4 c = search needs
+
 write-route-requires : tie.Need-write-route-requires
-write-route-requires c κs = part-asks (c .before .before .before .before .before .before .before .before .pre) (rw length-take (omega (arith, c .before .before .before .before .before .before .before .before .pre .choices)))
+write-route-requires c κs =
+    let s = c .before .before .before .before .before .before .before .before .before .before .before .before .pre in
+    (part-asks s (rw length-take (omega (arith, s .choices))), record { places = omega arith; costs = omega arith }, record { places = omega arith; costs = omega arith })
 
 clear-requires : tie.Need-clear-requires
 clear-requires c κs = search needs
@@ -42,8 +56,8 @@ same-length-2 c = search needs
 
 returns : tie.Need-returns
 returns c =
-    let r = c .before .before .before .before .before .before .before .before .write-route in
-    let s = c .before .before .before .before .before .before .before .before .before .before .before .before .before .before .before .before .before in
+    let r = c .before .before .before .before .before .before .before .before .before .before .before .before .write-route in
+    let s = c .before .before .before .before .before .before .before .before .before .before .before .before .before .before .before .before .before .before .before .before .before .before .before .before .before in
     let m = 8 * (s .args .n * s .args .p * (s .args .n * s .args .p)) in
     record {
       ks = r .ensures .ks;
@@ -66,6 +80,10 @@ unfold-spec =
     sub-write-route
     part-write-route-start
     part-write-route-end
+    slice-aggregate-write-route
+    slice-aggregate-write-route-2
+    slice-aggregate-write-route-3
+    slice-aggregate-write-route-4
     write-route-requires
     clear-requires
     same-length

@@ -1,53 +1,24 @@
 use native.Mathlib.Omega.{arith}
-use Rattle.exits.proofs.Least.{least-more, least-all}
-use Prim.Native.Nat.{_-_, _≤_}
-use mathlib.Core.Path.{_≡_, refl}
-use Rattle.exits.specs.Cost.{least}
-use Rattle.exits.specs.Exits.{landing, lands}
+use Rattle.exits.proofs.Landings.{landed-more}
 use borrow.Author.Needs.{needs}
 use Rattle.exits.proofs.tunnels.land.Statement.{statement}
 use Rattle.exits.proofs.tunnels.land.Tie as tie
 
-abbrev Inv-loop : tie.InvT-loop
-Inv-loop links c n p weight count exits costs len x u best₀ i₀ best i =
-    (i ≤ c) × (best ≡ least (landing n p c links weight count exits costs len x u) i)
+cross-requires : tie.Need-cross-requires
+cross-requires c κs = search needs
 
-abbrev μ-loop : tie.MeasureT-loop
-μ-loop links c n p weight count exits costs len x u best₀ i₀ best i = c - i
+link-from-requires : tie.Need-link-from-requires
+link-from-requires c κs = search needs
 
-loop-holds : tie.Need-loop-holds Inv-loop μ-loop
-unfolding least
-loop-holds c = (omega arith, refl)
+lower-requires : tie.Need-lower-requires
+lower-requires c κs = let p = c .before .before .before .before .before .before .before .before .before .pre in rw (c .link-from .ensures) (omega (arith, p .2 .nodes, p .1 .link-from _ (p .0)))
 
-over-link-requires : tie.Need-over-link-requires Inv-loop μ-loop
-over-link-requires c κs = search needs
+same-length : tie.Need-same-length
+same-length c = search needs
 
-smaller-requires : tie.Need-smaller-requires Inv-loop μ-loop
-smaller-requires c κs = search needs
-
-add-i : tie.Need-add-i Inv-loop μ-loop
-add-i c = search needs
-
-loop-less : tie.Need-loop-less Inv-loop μ-loop
-loop-less c = search needs
-
-loop-again : tie.Need-loop-again Inv-loop μ-loop
-loop-again c = let l = c .before .before .before .loop in (omega arith, least-more _ (l .i) _ _ _ (l .inv .1) (c .before .over-link .ensures) (c .smaller .ensures))
-
-returns : tie.Need-returns Inv-loop μ-loop
-unfolding lands
-returns c = let l = c .before .loop in least-all _ (l .i) _ _ (l .inv .0) (omega arith) (l .inv .1)
+returns : tie.Need-returns
+returns c = let p = c .before .before .before .before .before .before .before .before .before .before .before .before .pre in landed-more _ _ _ _ _ _ _ _ _ _ (c .before .before .before .before .before .before .before .before .before .before .before .before .args .i) _ _ (p .2) (c .before .before .before .link-from .ensures) (p .1 .link-from _ (p .0)) (c .before .before .before .before .before .cross .ensures) (c .before .before .lower .ensures)
 
 pub land-spec : {M : Type 1} → statement M
 land-spec =
-    tie.close
-    (tie.spec
-    Inv-loop
-    μ-loop
-    loop-holds
-    over-link-requires
-    smaller-requires
-    add-i
-    loop-less
-    loop-again
-    returns)
+    tie.close (tie.spec cross-requires link-from-requires lower-requires same-length returns)

@@ -8,13 +8,13 @@ fun-kind-requires : tie.Need-fun-kind-requires
 fun-kind-requires c κs = search needs
 
 returns : tie.Need-returns
-returns c = fun-kind-not (c .before .before .before .before .before .before .before .before .before .before .pre .1 .1) _ (c .before .fun-kind .ensures) (c .if1 .taken)
+returns c = fun-kind-not (c .before .before .before .before .before .before .pre .1 .1) _ (c .before .fun-kind .ensures) (c .if1 .taken)
 
 fun-x-requires : tie.Need-fun-x-requires
 fun-x-requires c κs = search needs
 
 returns-2 : tie.Need-returns-2
-returns-2 c = fun-x-not (c .before .before .before .before .before .before .before .before .before .before .before .before .pre .1 .1) _ (c .before .fun-x .ensures) (c .if2 .taken)
+returns-2 c = fun-x-not (c .before .before .before .before .before .before .before .before .pre .1 .1) _ (c .before .fun-x .ensures) (c .if2 .taken)
 
 fun-node-requires : tie.Need-fun-node-requires
 fun-node-requires c κs = search needs
@@ -25,28 +25,23 @@ fun-weight-requires c κs = search needs
 cost-of-requires : tie.Need-cost-of-requires
 cost-of-requires c κs = search needs
 
-land-requires : tie.Need-land-requires
-land-requires c κs = search needs
+land-at-requires : tie.Need-land-at-requires
+land-at-requires c κs = let p = c .before .before .before .before .before .before .before .before .before .before .before .pre in let h = p .0 .fun-node _ (p .1 .0) in rw (c .before .before .fun-node .ensures) (omega (arith, h, p .0 .nodes), p .0 .most _ h)
 
 add-cost : tie.Need-add-cost
 add-cost c = search needs
 
 returns-3 : tie.Need-returns-3
-returns-3 c = fun-far (c .before .before .before .before .before .before .before .before .before .before .before .before .before .before .before .before .before .pre .1 .1) _ _ _ _ (c .before .before .before .before .fun-node .ensures) (c .before .before .before .fun-weight .ensures) (c .before .before .cost-of .ensures .0) (c .before .land .ensures .0) (c .if3 .taken)
+returns-3 c = fun-far (c .before .before .before .before .before .before .before .before .before .before .before .before .before .pre .1 .1) _ _ _ _ (c .before .before .before .before .fun-node .ensures) (c .before .before .before .fun-weight .ensures) (c .before .before .cost-of .ensures .0) (c .before .land-at .ensures .0) (c .if3 .taken)
 
 fun-y-requires : tie.Need-fun-y-requires
 fun-y-requires c κs = search needs
 
 number-requires : tie.Need-number-requires
-number-requires c κs =
-    let p = c .before .before .before .before .before .before .before .before .before .before .before .before .before .before .before .before .before .before .before .before .pre in
-    let j = c .before .before .before .before .before .before .before .before .before .before .before .before .before .before .before .before .before .before .before .before .args .j in
-    (rw (c .before .before .before .before .before .before .before .fun-node .ensures) (p .0 .0 .fun-node j (p .1 .0)), rw (c .before .before .fun-y .ensures) (p .0 .0 .fun-y j (p .1 .0)), p .0 .0 .places)
+number-requires c κs = let p = c .before .before .before .before .before .before .before .before .before .before .before .before .before .before .before .before .pre in (rw (c .before .before .before .before .before .before .before .fun-node .ensures) (p .0 .fun-node _ (p .1 .0)), rw (c .before .before .fun-y .ensures) (p .0 .fun-y _ (p .1 .0)), p .0 .small)
 
 add-exit-requires : tie.Need-add-exit-requires
-add-exit-requires c κs =
-    let p = c .before .before .before .before .before .before .before .before .before .before .before .before .before .before .before .before .before .before .before .before .before .pre in
-    (omega (arith, p .1 .1 .few, p .0 .2), omega (arith, p .1 .1 .few, p .0 .3), omega (arith, c .number .ensures .1, p .0 .0 .places))
+add-exit-requires c κs = let p = c .before .before .before .before .before .before .before .before .before .before .before .before .before .before .before .before .before .pre in (omega (arith, p .1 .1 .few, p .0 .places-room), omega (arith, p .1 .1 .few, p .0 .costs-room), omega (arith, c .number .ensures .1, p .0 .small))
 
 same-length : tie.Need-same-length
 same-length c = search needs
@@ -56,10 +51,10 @@ same-length-2 c = search needs
 
 returns-4 : tie.Need-returns-4
 returns-4 c =
-    let p = c .before .before .before .before .before .before .before .before .before .before .before .before .before .before .before .before .before .before .before .before .before .before .before .before .before .before .pre in
+    let p = c .before .before .before .before .before .before .before .before .before .before .before .before .before .before .before .before .before .before .before .before .before .before .pre in
     let a = c .before .before .before .before .add-exit .ensures in
-    fun-listed (p .1 .1) _ _ _ _ (c .before .before .before .before .before .before .before .before .before .before .before .before .before .fun-node .ensures) (c .before .before .before .before .before .before .before .before .before .before .before .before .fun-weight .ensures) (c .before .before .before .before .before .before .before .before .before .before .before .cost-of .ensures .0) (c .before .before .before .before .before .before .before .before .before .before .land .ensures .0)
-    _ _ _ _ (omega (arith, p .1 .1 .few, p .0 .2)) (omega (arith, p .1 .1 .few, p .0 .3)) (omega (arith, c .before .before .before .before .before .before .before .before .before .if3 .left)) (c .before .before .before .before .before .before .before .before .before .before .before .before .before .before .before .before .before .fun-kind .ensures) (c .before .before .before .before .before .before .before .before .before .before .before .before .before .before .before .before .if1 .left) _ (c .before .before .before .before .before .before .before .before .before .before .before .before .before .before .before .fun-x .ensures) (c .before .before .before .before .before .before .before .before .before .before .before .before .before .before .if2 .left)
+    fun-listed (p .1 .1) _ _ _ _ (c .before .before .before .before .before .before .before .before .before .before .before .before .before .fun-node .ensures) (c .before .before .before .before .before .before .before .before .before .before .before .before .fun-weight .ensures) (c .before .before .before .before .before .before .before .before .before .before .before .cost-of .ensures .0) (c .before .before .before .before .before .before .before .before .before .before .land-at .ensures .0)
+    _ _ _ _ (omega (arith, p .1 .1 .few, p .0 .places-room)) (omega (arith, p .1 .1 .few, p .0 .costs-room)) (omega (arith, c .before .before .before .before .before .before .before .before .before .if3 .left)) (c .before .before .before .before .before .before .before .before .before .before .before .before .before .before .before .before .before .fun-kind .ensures) (c .before .before .before .before .before .before .before .before .before .before .before .before .before .before .before .before .if1 .left) _ (c .before .before .before .before .before .before .before .before .before .before .before .before .before .before .before .fun-x .ensures) (c .before .before .before .before .before .before .before .before .before .before .before .before .before .before .if2 .left)
     (c .before .before .before .before .before .before .before .before .fun-y .ensures) (c .before .before .before .before .before .number .ensures .0) (a .0) (a .1) (a .2)
 
 pub list-fun-spec : {M : Type 1} → statement M
@@ -73,7 +68,7 @@ list-fun-spec =
     fun-node-requires
     fun-weight-requires
     cost-of-requires
-    land-requires
+    land-at-requires
     add-cost
     returns-3
     fun-y-requires

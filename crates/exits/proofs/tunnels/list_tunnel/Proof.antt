@@ -1,60 +1,37 @@
-use native.Mathlib.Omega.{arith}
-use Rattle.exits.proofs.Landings.{unwraps-none}
-use Rattle.exits.proofs.Listing.{gathered-to}
+use Rattle.exits.proofs.Landings.{landed-none, landed-most, landed-unwraps}
 use borrow.Author.Needs.{needs}
-use Prim.Native.Nat.{_-_, _≤_}
-use mathlib.Core.Path.{_≡_, refl}
-use lib.ListN.{length}
-use Rattle.exits.specs.Lists.{Gathered}
-use Rattle.exits.specs.Exits.{Unwraps}
 use Rattle.exits.proofs.tunnels.list_tunnel.Statement.{statement}
 use Rattle.exits.proofs.tunnels.list_tunnel.Tie as tie
 
-abbrev Inv-loop : tie.InvT-loop
-Inv-loop links c funs d n p weight count exits costs len x outs₀ fees₀ m₀ j₀ outs fees m j =
-    (j ≤ d) × Gathered (Unwraps n p c links weight count exits costs len x funs) j outs fees m × (length outs ≡ length outs₀) × (length fees ≡ length fees₀)
+slice-aggregate-land-all : tie.Need-slice-aggregate-land-all
+slice-aggregate-land-all c = search needs
 
-abbrev μ-loop : tie.MeasureT-loop
-μ-loop links c funs d n p weight count exits costs len x outs₀ fees₀ m₀ j₀ outs fees m j = d - j
+land-all-requires : tie.Need-land-all-requires
+land-all-requires c κs = let p = c .before .before .before .before .before .before .before .before .before .pre in (p .1, landed-none _ _ _ _ _ _ _ _ _ _ 256 (p .0 .nodes))
 
-loop-holds : tie.Need-loop-holds Inv-loop μ-loop
-loop-holds c = (omega arith, unwraps-none, refl, refl)
+slice-aggregate-list-funs : tie.Need-slice-aggregate-list-funs
+slice-aggregate-list-funs c = search needs
 
-list-fun-requires : tie.Need-list-fun-requires Inv-loop μ-loop
-list-fun-requires c κs =
-    let l = c .before .before .before .loop in
-    let p = c .before .before .before .before .before .before .before .before .before .before .before .before .pre in
-    ((p .0, p .1, rw (l .inv .2) (p .2), rw (l .inv .3) (p .3)), (omega arith, l .inv .1))
+list-funs-requires : tie.Need-list-funs-requires
+list-funs-requires c κs = let p = c .before .before .before .before .before .before .before .before .before .before .before .before .before .before .pre in let l = c .before .before .before .before .land-all .ensures in record { small = p .0 .places; fun-room = p .0 .fun-room; fun-node = p .0 .fun-node; fun-y = p .0 .fun-y; nodes = l .nodes; most = landed-most _ _ _ _ _ _ _ _ _ _ l; places-room = p .2; costs-room = p .3 }
 
-add-j : tie.Need-add-j Inv-loop μ-loop
-add-j c = search needs
-
-loop-less : tie.Need-loop-less Inv-loop μ-loop
-loop-less c = search needs
-
-loop-again : tie.Need-loop-again Inv-loop μ-loop
-loop-again c = search needs
-
-same-length : tie.Need-same-length Inv-loop μ-loop
+same-length : tie.Need-same-length
 same-length c = search needs
 
-same-length-2 : tie.Need-same-length-2 Inv-loop μ-loop
+same-length-2 : tie.Need-same-length-2
 same-length-2 c = search needs
 
-returns : tie.Need-returns Inv-loop μ-loop
-returns c = let l = c .before .loop in gathered-to (l .j) _ (l .inv .0) (omega arith) (l .inv .1)
+returns : tie.Need-returns
+returns c = landed-unwraps _ (c .before .before .before .before .before .before .before .before .before .land-all .ensures) (c .before .before .before .before .before .before .before .before .before .before .before .before .before .before .before .before .before .before .before .pre .0 .fun-node) (c .before .before .before .before .list-funs .ensures)
 
 pub list-tunnel-spec : {M : Type 1} → statement M
 list-tunnel-spec =
     tie.close
     (tie.spec
-    Inv-loop
-    μ-loop
-    loop-holds
-    list-fun-requires
-    add-j
-    loop-less
-    loop-again
+    slice-aggregate-land-all
+    land-all-requires
+    slice-aggregate-list-funs
+    list-funs-requires
     same-length
     same-length-2
     returns)

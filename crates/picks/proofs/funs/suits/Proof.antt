@@ -1,3 +1,6 @@
+use mathlib.Core.Path.{sym, _∙_}
+use borrow.Author.Tests.{eq-eqb, ne-eqb}
+use Rattle.records.specs.Columns.{node}
 use Rattle.picks.specs.Pick.{serves}
 use borrow.Author.Needs.{needs}
 use Rattle.picks.proofs.funs.suits.Statement.{statement}
@@ -5,6 +8,10 @@ use Rattle.picks.proofs.funs.suits.Tie as tie
 
 fun-node-requires : tie.Need-fun-node-requires
 fun-node-requires c κs = search needs
+
+returns : tie.Need-returns
+unfolding serves
+returns c = let a = c .before .before .before .args in rw (ne-eqb (node (a .funs .now) (a .j)) (a .v) (λ f. c .if1 .taken (c .before .fun-node .ensures ∙ f)))
 
 fun-kind-requires : tie.Need-fun-kind-requires
 fun-kind-requires c κs = search needs
@@ -15,10 +22,11 @@ top-of-requires c κs = search needs
 fun-x-requires : tie.Need-fun-x-requires
 fun-x-requires c κs = search needs
 
-returns : tie.Need-returns
+returns-2 : tie.Need-returns-2
 unfolding serves
-returns c = rw (c .before .before .before .fun-node .ensures, c .before .before .fun-kind .ensures, c .before .top-of .ensures, c .fun-x .ensures)
+returns-2 c = let a = c .before .before .before .before .before .before .args in rw (eq-eqb (node (a .funs .now) (a .j)) (a .v) (sym (c .before .before .before .before .fun-node .ensures) ∙ c .before .before .before .if1 .left), c .before .before .fun-kind .ensures, c .before .top-of .ensures, c .fun-x .ensures)
 
 pub suits-spec : {M : Type 1} → statement M
 suits-spec =
-    tie.close (tie.spec fun-node-requires fun-kind-requires top-of-requires fun-x-requires returns)
+    tie.close
+    (tie.spec fun-node-requires returns fun-kind-requires top-of-requires fun-x-requires returns-2)

@@ -13,29 +13,23 @@ words-for-requires c κs = search needs
 mul-list-level : tie.Need-mul-list-level
 mul-list-level c = search needs
 
-slice-aggregate-list-level : tie.Need-slice-aggregate-list-level
-slice-aggregate-list-level c = search needs
-
-slice-aggregate-list-level-2 : tie.Need-slice-aggregate-list-level-2
-slice-aggregate-list-level-2 c = search needs
-
 list-level-requires : tie.Need-list-level-requires
 list-level-requires c κs = search needs
 
-slice-aggregate-try-funs : tie.Need-slice-aggregate-try-funs
-slice-aggregate-try-funs c = search needs
-
-slice-aggregate-try-funs-2 : tie.Need-slice-aggregate-try-funs-2
-slice-aggregate-try-funs-2 c = search needs
-
 try-funs-requires : tie.Need-try-funs-requires
 try-funs-requires c κs =
-    let p = c .before .before .before .before .before .before .before .before .before .before .before .before .before .pre in
-    let l = c .before .before .before .before .list-level in
-    (p .0, looked-scanning (p .1) (looked-ranged (p .1) (λ i. omega (arith, c .before .before .before .before .before .before .before .before .shared-slice-known5 .given i)) (c .before .before .before .before .before .before .before .words-for .ensures .1) (omega (arith, l .kept .1 .1 .1 .1 .1 .1 .0)) (omega (arith, l .kept .1 .1 .1 .1 .1 .1 .1 .0)) (l .ensures .0) (l .ensures .1)))
+    let p = c .before .before .before .before .before .before .before .before .before .before .before .before .before .before .before .before .before .pre in
+    let l = c .before .before .before .before .before .before .list-level in
+    (p .0, looked-scanning (p .1) (looked-ranged (p .1) (λ i. omega (arith, c .before .before .before .before .before .before .before .before .before .before .before .before .shared-slice-known5 .given i)) (c .before .before .before .before .before .before .before .before .before .words-for .ensures .1) (omega (arith, l .kept .1 .1 .1 .1 .1 .1 .0, p .2 .places)) (omega (arith, l .kept .1 .1 .1 .1 .1 .1 .1 .0, p .2 .costs)) (l .ensures .0) (l .ensures .1)))
+
+same-length : tie.Need-same-length
+same-length c = search needs
+
+same-length-2 : tie.Need-same-length-2
+same-length-2 c = search needs
 
 returns : tie.Need-returns
-returns c = by-level (c .before .before .before .before .before .before .before .before .words-for .ensures .0) (c .before .before .before .before .before .list-level .ensures .1) (c .try-funs .ensures)
+returns c = by-level (c .before .before .before .before .before .before .before .before .before .before .words-for .ensures .0) (c .before .before .before .before .before .before .before .list-level .ensures .1) (c .try-funs .ensures)
 
 pub look-level-spec : {M : Type 1} → statement M
 look-level-spec =
@@ -44,10 +38,8 @@ look-level-spec =
     mul-words-for
     words-for-requires
     mul-list-level
-    slice-aggregate-list-level
-    slice-aggregate-list-level-2
     list-level-requires
-    slice-aggregate-try-funs
-    slice-aggregate-try-funs-2
     try-funs-requires
+    same-length
+    same-length-2
     returns)
