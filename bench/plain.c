@@ -43,17 +43,17 @@ static void steps(const tables *t, uint32_t v, uint32_t kind, uint32_t x, uint64
     }
 }
 
-static bool wraps(const tables *t, uint32_t v, uint32_t x) {
+static bool serves(const tables *t, uint32_t v, uint32_t kind, uint32_t x) {
     const uint32_t *f = t->net->funs;
     for (size_t j = 0; j < t->net->d; j++, f += 5)
-        if (f[0] == v && f[1] == 1 && f[2] == x) return true;
+        if (f[0] == v && f[1] == kind && f[2] == x) return true;
     return false;
 }
 
 static void tunnels(const tables *t, uint32_t v, uint32_t x, uint64_t *a) {
     const network *net = t->net;
     uint64_t inside[MOST_PLACES], exits[MOST_PLACES], ends[MOST_NODES];
-    if (!wraps(t, v, x)) return;
+    if (!serves(t, v, 1, x)) return;
     clear(inside, t->size);
     clear(exits, t->size);
     clear(ends, t->n);
@@ -112,12 +112,37 @@ static bool sweep_row(tables *t, uint32_t v, uint32_t x, uint32_t since) {
     return fell;
 }
 
+static bool has_news(const tables *t, uint32_t w, uint32_t since) {
+    for (size_t y = 0; y < t->p; y++)
+        if (t->stamps[w * t->p + y] >= since) return true;
+    return false;
+}
+
+static bool news_near(const tables *t, uint32_t v, uint32_t since) {
+    const uint32_t *l = t->net->links;
+    for (size_t i = 0; i < t->net->c; i++, l += 4)
+        if (l[1] == v && has_news(t, l[2], since)) return true;
+    return false;
+}
+
+static bool news_far(const tables *t, uint32_t x, uint32_t since) {
+    const uint32_t *l = t->net->links;
+    for (size_t i = 0; i < t->net->c; i++, l += 4)
+        if (t->stamps[l[2] * t->p + x] >= since && serves(t, l[1], 2, x)) return true;
+    return false;
+}
+
+/* Whether the row leans on nothing that has changed since then; since 0, everything has. */
+static bool is_settled(const tables *t, uint32_t v, uint32_t x, uint32_t since) {
+    return since != 0 && !news_near(t, v, since) && !(serves(t, v, 1, x) && news_far(t, x, since));
+}
+
 static bool sweep_all(tables *t, uint32_t stamp, uint32_t since, bool back) {
     bool fell = false;
     for (size_t k = 0; k < t->n; k++)
         for (size_t x = 0; x < t->p; x++) {
             size_t v = back ? t->n - 1 - k : k;
-            if (!sweep_row(t, (uint32_t)v, (uint32_t)x, since)) continue;
+            if (is_settled(t, (uint32_t)v, (uint32_t)x, since) || !sweep_row(t, (uint32_t)v, (uint32_t)x, since)) continue;
             t->stamps[v * t->p + x] = stamp;
             fell = true;
         }

@@ -1,7 +1,7 @@
 -- The rooms before the first sweep, from one sweep to the next, and at the end.
 -- Main results: `begun`, `swept`, `filled`. Assumes nothing.
 use Prim.Native.Nat.{ℕ, zero, suc, _+_, _*_, _<_, _≤_, min}
-use mathlib.Core.Path.{_≡_, refl, sym, ap, subst, _∙_}
+use mathlib.Core.Path.{_≡_, refl, sym, ap, _∙_}
 use mathlib.Core.Bool.{Bool, true, false, cond, not, _&&_, _||_}
 use mathlib.Core.List.{List}
 use mathlib.Core.Logic.{_⊎_, inl, inr}
@@ -23,13 +23,12 @@ use Rattle.costs.specs.Loop.{upto}
 use Rattle.costs.specs.Cells.{value, Cells, cells, valueAt, stored, lowered}
 use Rattle.costs.proofs.Values.{Good, never-heft}
 use Rattle.sweeps.specs.Row.{reached, row}
-use Rattle.sweeps.specs.Sweep.{Stage, stage, stamped, turned, visited, nodeRows, sweep, cleared, diagonal}
+use Rattle.sweeps.specs.Sweep.{Stage, stage, stamped, visited, sweep, Visits, none, more, Passing, cleared, diagonal}
 use Rattle.sweeps.specs.Filled.{Filled}
 use Rattle.sweeps.proofs.Corners.{begin-le}
-use Rattle.sweeps.proofs.Loops as loops
 use Rattle.sweeps.proofs.Tests.{and-true}
 use Rattle.sweeps.proofs.Lowering.{ws, cs, val, size, Held, Step, step-none, step-then, reached-step, reached-hit, upto-step, upto-hit}
-use Rattle.sweeps.proofs.Quiet.{not-both, dropped, turned-lt, sweep-quiet, sweep-each}
+use Rattle.sweeps.proofs.Quiet.{not-both, dropped, sweep-quiet, sweep-each}
 use Rattle.sweeps.proofs.Ways.{PairIs}
 use Rattle.sweeps.proofs.Rows.{Rooms, row-step}
 use Rattle.sweeps.proofs.Reach as levels
@@ -213,15 +212,11 @@ module _ (n p nl : ℕ) (ls : List ℕ) (nf : ℕ) (fs : List ℕ) (valid : Vali
         go : (t : Cells) → Step (n * p * (n * p)) Pair (cells W C false) t → On (stage W C H b) (stamped stamp (place p v x) H b t)
         go (cells W′ C′ r) a = flagged W C W′ C′ b r a
 
-    nodeRows-on : (v : ℕ) → v < n → (s : Stage) → Kind s → On s (nodeRows n p nl ls nf fs stamp since v s)
-    unfolding nodeRows
-    nodeRows-on v hv = loops.upto-step Kind On (λ s k. step-none _ _ (rooms-of s) k) (λ s t u a b. step-then _ _ (rooms-of s) (rooms-of t) (rooms-of u) a b) (λ s t a. a .held) _ p (λ x hx. visited-on v x hv hx)
-
-    sweep-on : (back : Bool) (s : Stage) → Kind s → On s (sweep n p nl ls nf fs stamp since back s)
-    unfolding sweep
-    sweep-on back =
-        loops.upto-step Kind On (λ s k. step-none _ _ (rooms-of s) k) (λ s t u a b. step-then _ _ (rooms-of s) (rooms-of t) (rooms-of u) a b) (λ s t a. a .held) _ n
-        (λ k hk. nodeRows-on (turned back n k) (turned-lt back n k hk))
+    visits-on : {s t : Stage} → Visits n p nl ls nf fs stamp since s t → Kind s → On s t
+    visits-on {s} none k = step-none _ _ (rooms-of s) k
+    visits-on {s} (more {t = t} v x hv hx a) k =
+        let b = visits-on a k in
+        step-then _ _ (rooms-of s) (rooms-of t) _ b (visited-on v x hv hx t (b .held))
 
     pub record Swept (W C H W′ C′ H′ : List ℕ) (r : Bool) : Type 0 where
       pub sound : Sound n p nl ls nf fs valid W′ C′
@@ -231,9 +226,9 @@ module _ (n p nl : ℕ) (ls : List ℕ) (nf : ℕ) (fs : List ℕ) (valid : Vali
       pub falls : r ≡ true → size (cells W′ C′ false) < size (cells W C false)
 
     pub swept : (back : Bool) (W C H W′ C′ H′ : List ℕ) (r : Bool) → Sound n p nl ls nf fs valid W C
-        → stage W′ C′ H′ r ≡ sweep n p nl ls nf fs stamp since back (stage W C H false) → Swept W C H W′ C′ H′ r
+        → Passing n p nl ls nf fs stamp since (stage W C H false) (sweep n p nl ls nf fs stamp since back) (stage W′ C′ H′ r) → Swept W C H W′ C′ H′ r
     unfolding val size Still
-    swept back W C H W′ C′ H′ r sound e =
+    swept back W C H W′ C′ H′ r sound passing =
         record {
           sound =
               record {
@@ -247,10 +242,11 @@ module _ (n p nl : ℕ) (ls : List ℕ) (nf : ℕ) (fs : List ℕ) (valid : Vali
         }
       where
         st : Step (n * p * (n * p)) Pair (cells W C false) (cells W′ C′ r)
-        st = subst (λ (t : Stage). On (stage W C H false) t) (sym e) (sweep-on back (stage W C H false) (sound .rooms))
+        st = visits-on (passing .visits) (sound .rooms)
 
         still : since ≡ 0 → r ≡ false → (v x : ℕ) → v < n → x < p → row n p nl ls nf fs H′ 0 v x (cells W′ C′ false) ≡ cells W′ C′ false
         still z f v x hv hx =
+            let e = passing .full z in
             let g = ap dropped (sym e) ∙ f in
             let b : stage W′ C′ H′ r ≡ stage W C H false = e ∙ sweep-quiet n p nl ls nf fs stamp since back .still (stage W C H false) g in
             let a : W′ ≡ W = cc in

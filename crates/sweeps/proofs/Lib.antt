@@ -12,3 +12,4 @@ pub mod Rows
 pub mod Exact
 pub mod Begin
 pub mod Tabled
+pub mod Passes

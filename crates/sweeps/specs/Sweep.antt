@@ -1,6 +1,7 @@
 -- A sweep over all the rows, as a function of the rooms: one function here for each in the code.
 -- Assumes nothing: these are definitions.
-use Prim.Native.Nat.{ℕ, _+_, _*_, _-_}
+use Prim.Native.Nat.{ℕ, _+_, _*_, _-_, _<_}
+use mathlib.Core.Path.{_≡_}
 use mathlib.Core.Bool.{Bool, true, false, cond, _||_}
 use mathlib.Core.List.{List}
 use lib.ListN.{set}
@@ -32,6 +33,16 @@ module _ (n p nl : ℕ) (ls : List ℕ) (nf : ℕ) (fs : List ℕ) (stamp since 
 
   unfoldable pub sweep : Bool → Stage → Stage
   sweep back = upto (λ k. nodeRows (turned back n k)) n
+
+  -- from one stage to another by visits of rows
+  pub data Visits : Stage → Stage → Type 0 where
+    none : {s : Stage} → Visits s s
+    more : {s t : Stage} (v x : ℕ) → v < n → x < p → Visits s t → Visits s (visited v x t)
+
+  -- t comes from s by some of what f does: a sweep may pass over rows, but not where everything counts as new
+  pub record Passing (s : Stage) (f : Stage → Stage) (t : Stage) : Type 0 where
+    pub visits : Visits s t
+    pub full : since ≡ 0 → t ≡ f s
 
 -- every entry `never`, then those of a place with itself 0 and 0
 unfoldable pub cleared : ℕ → Cells → Cells

@@ -9,7 +9,7 @@ use lib.ListN.{length}
 use Rattle.records.specs.Columns.{hopOf}
 use Rattle.records.specs.Valid.{Valid}
 use Rattle.costs.specs.Cells.{cells}
-use Rattle.sweeps.specs.Sweep.{stage, sweep, cleared, diagonal}
+use Rattle.sweeps.specs.Sweep.{stage, sweep, Passing, cleared, diagonal}
 use Rattle.sweeps.specs.Filled.{Filled}
 use Rattle.sweeps.proofs.Lowering.{size}
 use Rattle.sweeps.proofs.Exact.{Sound, Still}
@@ -41,7 +41,7 @@ module _ (n p nl : ℕ) (ls : List ℕ) (nf : ℕ) (fs : List ℕ) where
       }
 
   module _ (stamp since : ℕ) (back : Bool) (W C H W′ C′ H′ : List ℕ) (r done : Bool) (valid : Valid n p nl ls nf fs)
-      (e : stage W′ C′ H′ r ≡ sweep n p nl ls nf fs stamp since back (stage W C H false)) (f : done ≡ (not r && eqb since 0)) where
+      (e : Passing n p nl ls nf fs stamp since (stage W C H false) (sweep n p nl ls nf fs stamp since back) (stage W′ C′ H′ r)) (f : done ≡ (not r && eqb since 0)) where
     pub settling-turn : (W₀ C₀ H₀ : List ℕ) (before : Bool) → Settling W₀ C₀ H₀ W C H before → length H′ ≡ length H → Settling W₀ C₀ H₀ W′ C′ H′ done
     settling-turn W₀ C₀ H₀ before s l =
         record {

@@ -1,6 +1,6 @@
 -- What the proofs of the code cite: one law for each function, over plain variables. Assumes nothing.
 use Prim.Native.Nat.{ℕ, _<_, _-_}
-use mathlib.Core.Path.{_≡_, refl}
+use mathlib.Core.Path.{_≡_, refl, sym, _∙_}
 use mathlib.Core.Bool.{Bool, true, false, cond, not, _||_}
 use mathlib.Core.List.{List}
 use native.Mathlib.Omega.{arith}
@@ -8,7 +8,9 @@ use lib.ListN.{length, set}
 use Rattle.paper.specs.Net.{place}
 use Rattle.costs.specs.Cells.{cells}
 use Rattle.sweeps.specs.Row.{row}
-use Rattle.sweeps.specs.Sweep.{Stage, stage, stamped, visited, nodeRows, turned}
+use Rattle.sweeps.specs.Sweep.{Stage, stage, stamped, visited, nodeRows, turned, Passing}
+use Rattle.sweeps.proofs.Quiet.{not-both}
+use Rattle.sweeps.proofs.Passes.{passing-over}
 use Rattle.ways.specs.Asked.{Sweeping}
 
 pub marked : (H : List ℕ) (r stamp : ℕ) (b : Bool) → not b ≡ false → set H r stamp ≡ cond b (set H r stamp) H
@@ -23,6 +25,11 @@ pub visiting : (n p nl : ℕ) (ls : List ℕ) (nf : ℕ) (fs : List ℕ) (stamp 
     → at ≡ place p v x → H′ ≡ cond r (set H at stamp) H → stage W′ C′ H′ (b || r) ≡ visited n p nl ls nf fs stamp since v x (stage W C H b)
 unfolding visited stamped
 visiting n p nl ls nf fs stamp since v x at W C H W′ C′ H′ b r e f g = rw (← e, ← f, g)
+
+-- a row that leans on nothing new
+pub passed-by : (n p nl : ℕ) (ls : List ℕ) (nf : ℕ) (fs : List ℕ) (stamp since : ℕ) (f : Stage → Stage) (s : Stage) (b : Bool) → (since ≡ 0 → b ≡ false) → b ≡ true
+    → Passing n p nl ls nf fs stamp since s f s
+passed-by n p nl ls nf fs stamp since f s b h t = passing-over n p nl ls nf fs stamp since f s (λ z. not-both (sym t ∙ h z))
 
 pub still-sweeping : {n p nl : ℕ} {ls : List ℕ} {nf : ℕ} {fs W C H : List ℕ} (W′ C′ H′ : List ℕ) → Sweeping n p nl ls nf fs W C H → length W′ ≡ length W → length C′ ≡ length C → length H′ ≡ length H
     → Sweeping n p nl ls nf fs W′ C′ H′
@@ -42,6 +49,6 @@ pub turned-on : (b : Bool) (n k : ℕ) → b ≡ false → k < n → (k ≡ turn
 unfolding turned
 turned-on b n k e h = (rw e, h)
 
-pub turning : (n p nl : ℕ) (ls : List ℕ) (nf : ℕ) (fs : List ℕ) (stamp since : ℕ) (back : Bool) (k v : ℕ) (s t : Stage) → v ≡ turned back n k → t ≡ nodeRows n p nl ls nf fs stamp since v s
-    → t ≡ nodeRows n p nl ls nf fs stamp since (turned back n k) s
+pub turning : (n p nl : ℕ) (ls : List ℕ) (nf : ℕ) (fs : List ℕ) (stamp since : ℕ) (back : Bool) (k v : ℕ) (s t : Stage) → v ≡ turned back n k
+    → Passing n p nl ls nf fs stamp since s (nodeRows n p nl ls nf fs stamp since v) t → Passing n p nl ls nf fs stamp since s (nodeRows n p nl ls nf fs stamp since (turned back n k)) t
 turning n p nl ls nf fs stamp since back k v s t e g = rw e at g

@@ -3,8 +3,9 @@ ghost use mathlib.Core.Path.{_≡_};
 ghost use mathlib.Core.Bool.{false, cond};
 ghost use Prim.Native.Nat.{_<_};
 ghost use lib.ListN.{length, set};
-ghost use Rattle.sweeps.specs.Sweep.{Stage, stage, visited, nodeRows, turned, sweep};
+ghost use Rattle.sweeps.specs.Sweep.{Stage, stage, visited, nodeRows, turned, sweep, Passing};
 ghost use Rattle.ways.specs.Asked.{Sweeping};
+use news::is_settled;
 use paper::place::Place;
 use ways::sweep_row;
 
@@ -19,7 +20,7 @@ fn mark(stamps: &mut [u32], r: usize, stamp: u32, fell: bool)
     stamps[r] = stamp;
 }
 
-// The row of node v under x. The result: whether this or anything earlier fell.
+// The row of node v under x, passed over where it leans on nothing new. The result: whether this or anything earlier fell.
 fn visit(
     links: &[u32],
     c: usize,
@@ -38,8 +39,11 @@ fn visit(
 ) -> bool
     requires { ⌜ Sweeping n p c (now links) d (now funs) (now weight) (now count) (now stamps) ⌝ }
     requires { ⌜ (v < n) × (x < p) ⌝ }
-    ensures { λ r. ⌜ stage (now (weight .exit)) (now (count .exit)) (now (stamps .exit)) r ≡ visited n p c (now (links .entry)) d (now (funs .entry)) stamp since v x (stage (now (weight .entry)) (now (count .entry)) (now (stamps .entry)) fell) ⌝ }
+    ensures { λ r. ⌜ Passing n p c (now (links .entry)) d (now (funs .entry)) stamp since (stage (now (weight .entry)) (now (count .entry)) (now (stamps .entry)) fell) (visited n p c (now (links .entry)) d (now (funs .entry)) stamp since v x) (stage (now (weight .exit)) (now (count .exit)) (now (stamps .exit)) r) ⌝ }
 {
+    if is_settled(links, c, funs, d, n, p, stamps, since, v, x) {
+        return fell;
+    }
     let r = sweep_row(links, c, funs, d, n, p, weight, count, stamps, since, v, x);
     let here = Place {
         node: v,
@@ -67,7 +71,7 @@ fn visit_node(
 ) -> bool
     requires { ⌜ Sweeping n p c (now links) d (now funs) (now weight) (now count) (now stamps) ⌝ }
     requires { ⌜ v < n ⌝ }
-    ensures { λ r. ⌜ stage (now (weight .exit)) (now (count .exit)) (now (stamps .exit)) r ≡ nodeRows n p c (now (links .entry)) d (now (funs .entry)) stamp since v (stage (now (weight .entry)) (now (count .entry)) (now (stamps .entry)) fell) ⌝ }
+    ensures { λ r. ⌜ Passing n p c (now (links .entry)) d (now (funs .entry)) stamp since (stage (now (weight .entry)) (now (count .entry)) (now (stamps .entry)) fell) (nodeRows n p c (now (links .entry)) d (now (funs .entry)) stamp since v) (stage (now (weight .exit)) (now (count .exit)) (now (stamps .exit)) r) ⌝ }
 {
     let mut any = fell;
     let mut x = 0;
@@ -120,7 +124,7 @@ pub fn sweep_all(
     back: bool,
 ) -> bool
     requires { ⌜ Sweeping n p c (now links) d (now funs) (now weight) (now count) (now stamps) ⌝ }
-    ensures { λ r. ⌜ stage (now (weight .exit)) (now (count .exit)) (now (stamps .exit)) r ≡ sweep n p c (now (links .entry)) d (now (funs .entry)) stamp since back (stage (now (weight .entry)) (now (count .entry)) (now (stamps .entry)) false) ⌝ }
+    ensures { λ r. ⌜ Passing n p c (now (links .entry)) d (now (funs .entry)) stamp since (stage (now (weight .entry)) (now (count .entry)) (now (stamps .entry)) false) (sweep n p c (now (links .entry)) d (now (funs .entry)) stamp since back) (stage (now (weight .exit)) (now (count .exit)) (now (stamps .exit)) r) ⌝ }
 {
     let mut any = false;
     let mut k = 0;

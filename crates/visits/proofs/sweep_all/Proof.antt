@@ -1,8 +1,8 @@
 use native.Mathlib.Omega.{arith}
 use borrow.Author.Needs.{needs}
 use Rattle.visits.proofs.Turns.{still-sweeping, turning}
-use Rattle.sweeps.proofs.Loops.{turn}
-use Rattle.sweeps.specs.Sweep.{stage, nodeRows, turned, sweep}
+use Rattle.sweeps.proofs.Passes.{passing-start, passing-turn}
+use Rattle.sweeps.specs.Sweep.{stage, nodeRows, turned, sweep, Passing}
 use Rattle.costs.specs.Loop.{upto}
 use lib.ListN.{length}
 use mathlib.Core.Path.{_≡_}
@@ -13,14 +13,13 @@ use Rattle.visits.proofs.sweep_all.Tie as tie
 abbrev Inv-loop : tie.InvT-loop
 Inv-loop links c funs d n p weight₀ count₀ stamps₀ stamp since back any₀ k₀ weight count stamps any k =
     (k ≤ n) × (length weight ≡ length weight₀) × (length count ≡ length count₀) × (length stamps ≡ length stamps₀)
-    × (stage weight count stamps any ≡ upto (λ i. nodeRows n p c links d funs stamp since (turned back n i)) k (stage weight₀ count₀ stamps₀ any₀))
+    × Passing n p c links d funs stamp since (stage weight₀ count₀ stamps₀ any₀) (upto (λ i. nodeRows n p c links d funs stamp since (turned back n i)) k) (stage weight count stamps any)
 
 abbrev μ-loop : tie.MeasureT-loop
 μ-loop links c funs d n p weight₀ count₀ stamps₀ stamp since back any₀ k₀ weight count stamps any k = n - k
 
 loop-holds : tie.Need-loop-holds Inv-loop μ-loop
-unfolding upto
-loop-holds c = search needs
+loop-holds c = (search needs, search needs, search needs, search needs, passing-start _ _ _ _ _ _ _ _ _ _)
 
 nth-requires : tie.Need-nth-requires Inv-loop μ-loop
 nth-requires c κs = search needs
@@ -37,7 +36,7 @@ loop-less : tie.Need-loop-less Inv-loop μ-loop
 loop-less c = search needs
 
 loop-again : tie.Need-loop-again Inv-loop μ-loop
-loop-again c = (search needs, search needs, search needs, search needs, turn _ _ _ _ _ (c .before .before .before .before .before .before .before .before .before .before .before .before .loop .inv .4) (turning _ _ _ _ _ _ _ _ _ _ _ _ _ (c .before .before .before .before .before .before .before .nth .ensures .0) (c .before .before .before .before .before .before .visit-node .ensures)))
+loop-again c = (search needs, search needs, search needs, search needs, passing-turn _ _ _ _ _ _ _ _ _ _ _ _ _ (c .before .before .before .before .before .before .before .before .before .before .before .before .loop .inv .4) (turning _ _ _ _ _ _ _ _ _ _ _ _ _ (c .before .before .before .before .before .before .before .nth .ensures .0) (c .before .before .before .before .before .before .visit-node .ensures)))
 
 same-length : tie.Need-same-length Inv-loop μ-loop
 same-length c = search needs

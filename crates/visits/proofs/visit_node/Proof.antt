@@ -1,8 +1,8 @@
 use native.Mathlib.Omega.{arith}
 use borrow.Author.Needs.{needs}
 use Rattle.visits.proofs.Turns.{still-sweeping}
-use Rattle.sweeps.proofs.Loops.{turn}
-use Rattle.sweeps.specs.Sweep.{stage, visited, nodeRows}
+use Rattle.sweeps.proofs.Passes.{passing-start, passing-turn}
+use Rattle.sweeps.specs.Sweep.{stage, visited, nodeRows, Passing}
 use Rattle.costs.specs.Loop.{upto}
 use lib.ListN.{length}
 use mathlib.Core.Path.{_≡_}
@@ -13,14 +13,13 @@ use Rattle.visits.proofs.visit_node.Tie as tie
 abbrev Inv-loop : tie.InvT-loop
 Inv-loop links c funs d n p weight₀ count₀ stamps₀ stamp since v fell any₀ x₀ weight count stamps any x =
     (x ≤ p) × (length weight ≡ length weight₀) × (length count ≡ length count₀) × (length stamps ≡ length stamps₀)
-    × (stage weight count stamps any ≡ upto (visited n p c links d funs stamp since v) x (stage weight₀ count₀ stamps₀ any₀))
+    × Passing n p c links d funs stamp since (stage weight₀ count₀ stamps₀ any₀) (upto (visited n p c links d funs stamp since v) x) (stage weight count stamps any)
 
 abbrev μ-loop : tie.MeasureT-loop
 μ-loop links c funs d n p weight₀ count₀ stamps₀ stamp since v fell any₀ x₀ weight count stamps any x = p - x
 
 loop-holds : tie.Need-loop-holds Inv-loop μ-loop
-unfolding upto
-loop-holds c = search needs
+loop-holds c = (search needs, search needs, search needs, search needs, passing-start _ _ _ _ _ _ _ _ _ _)
 
 visit-requires : tie.Need-visit-requires Inv-loop μ-loop
 visit-requires c κs =
@@ -34,7 +33,7 @@ loop-less : tie.Need-loop-less Inv-loop μ-loop
 loop-less c = search needs
 
 loop-again : tie.Need-loop-again Inv-loop μ-loop
-loop-again c = (search needs, search needs, search needs, search needs, turn _ _ _ _ _ (c .before .before .before .before .before .before .before .before .before .before .before .loop .inv .4) (c .before .before .before .before .before .before .visit .ensures))
+loop-again c = (search needs, search needs, search needs, search needs, passing-turn _ _ _ _ _ _ _ _ _ _ _ _ _ (c .before .before .before .before .before .before .before .before .before .before .before .loop .inv .4) (c .before .before .before .before .before .before .visit .ensures))
 
 same-length : tie.Need-same-length Inv-loop μ-loop
 same-length c = search needs

@@ -1,0 +1,45 @@
+use borrow.Author.Needs.{needs}
+use Prim.Native.Nat.{_-_, _≤_}
+use Rattle.news.proofs.has_news.Statement.{statement}
+use Rattle.news.proofs.has_news.Tie as tie
+
+abbrev Inv-loop : tie.InvT-loop
+Inv-loop stamps n p since w y₀ y = y ≤ p
+
+abbrev μ-loop : tie.MeasureT-loop
+μ-loop stamps n p since w y₀ y = p - y
+
+loop-holds : tie.Need-loop-holds Inv-loop μ-loop
+loop-holds c = search needs
+
+is-new-requires : tie.Need-is-new-requires Inv-loop μ-loop
+is-new-requires c κs = search needs
+
+returns : tie.Need-returns Inv-loop μ-loop
+returns c = search needs
+
+add-y : tie.Need-add-y Inv-loop μ-loop
+add-y c = search needs
+
+loop-less : tie.Need-loop-less Inv-loop μ-loop
+loop-less c = search needs
+
+loop-again : tie.Need-loop-again Inv-loop μ-loop
+loop-again c = search needs
+
+returns-2 : tie.Need-returns-2 Inv-loop μ-loop
+returns-2 c = search needs
+
+pub has-news-spec : {M : Type 1} → statement M
+has-news-spec =
+    tie.close
+    (tie.spec
+    Inv-loop
+    μ-loop
+    loop-holds
+    is-new-requires
+    returns
+    add-y
+    loop-less
+    loop-again
+    returns-2)
