@@ -9,9 +9,9 @@ ghost use Rattle.sweeps.specs.Row.{goings, steps, tunnels, reach, row};
 ghost use Rattle.tunnels.specs.Asked.{Tunnelling};
 ghost use Rattle.ways.specs.Asked.{Sweeping};
 use costs::cost::FAR;
+use costs::entry::row_of;
 use lowering::merge::merge;
 use paper::place::Place;
-use spread::begin;
 use spread::gain_all;
 use steps::step_all;
 use tunnels::pass;
@@ -108,5 +108,5 @@ pub fn sweep_row(
         protocol: x,
     };
     let at = here.number(n, p);
-    merge(&y, begin(n * p, at), n * p, weight, count, false)
+    merge(&y, row_of(n * p, at), n * p, weight, count, false)
 }
