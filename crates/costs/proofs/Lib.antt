@@ -1,3 +1,4 @@
+pub mod Corners
 pub mod Values
 pub mod Worth
 pub mod Stores

@@ -1,12 +1,13 @@
 -- The weight and count rooms as a table of values, and what a store does to them.
 -- Assumes nothing: these are definitions.
-use Prim.Native.Nat.{ℕ}
+use Prim.Native.Nat.{ℕ, _+_, _*_}
 use mathlib.Core.Path.{_≡_}
 use mathlib.Core.Bool.{Bool, true, cond, _&&_, _||_}
 use mathlib.Core.List.{List}
 use lib.Dec.{leb, ltb, eqb}
 use lib.ListN.{getD, set}
 use Rattle.paper.specs.Limits.{heaviest, over-mark}
+use Rattle.paper.specs.Net.{place}
 use Rattle.laws.specs.Value.{Value, within, over, never, heft, count}
 
 -- the value that two entries stand for
@@ -28,6 +29,14 @@ pub data Cells : Type 0 where
 
 unfoldable pub valueAt : List ℕ → List ℕ → ℕ → Value
 valueAt W C i = value (getD W i 0) (getD C i 0)
+
+-- where the entry of the places (S, a) and (D, b) stands
+abbrev pub pairAt : (n p S a D b : ℕ) → ℕ
+pairAt n p S a D b = place p S a * (n * p) + place p D b
+
+-- the table that the rooms hold
+unfoldable pub table : (n p : ℕ) (W C : List ℕ) → (S a D b : ℕ) → Value
+table n p W C S a D b = valueAt W C (pairAt n p S a D b)
 
 unfoldable pub stored : (i w s : ℕ) → Cells → Cells
 stored i w s (cells W C b) = cells (set W i w) (set C i s) b

@@ -57,7 +57,7 @@ pub fn cost_at(weight: &[u32], count: &[u16], i: usize) -> u64
     cost_of(weight[i], count[i])
 }
 
-fn least(a: u64, b: u64) -> u64
+pub fn least(a: u64, b: u64) -> u64
     ensures { λ r. ⌜ r ≡ min a b ⌝ }
 {
     if a < b { a } else { b }

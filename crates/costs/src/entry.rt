@@ -1,6 +1,6 @@
 // The entries of a pair in the weight and count rooms: under a mark the count is 0.
 ghost use mathlib.Core.Path.{_≡_};
-ghost use Prim.Native.Nat.{_<_};
+ghost use Prim.Native.Nat.{_+_, _*_, _<_, _≤_};
 ghost use lib.ListN.{length, getD, set};
 ghost use Rattle.costs.specs.Cells.{Cells, cells, less, lowered};
 
@@ -32,6 +32,14 @@ pub fn put(weight: &mut [u32], count: &mut [u16], i: usize, e: Entry)
 {
     weight[i] = e.weight;
     count[i] = e.count;
+}
+
+// Where the row of a place begins, of `size` places.
+pub fn row_of(size: usize, place: usize) -> usize
+    requires { ⌜ (size ≤ 1024) × (place < size) ⌝ }
+    ensures { λ r. ⌜ (r ≡ place * size) × (r + size ≤ size * size) ⌝ }
+{
+    place * size
 }
 
 // Stores e at i where it is lighter than what stands there. The result: whether this or anything earlier fell.

@@ -22,9 +22,7 @@ use Rattle.replay.proofs.Entries.{keys-laid}
 use Rattle.records.specs.Valid.{Valid}
 use Rattle.trace.specs.declared.Traced.{Traced}
 use Rattle.trace.specs.Told.{Traceable, Told}
-use Rattle.costs.specs.Cells.{value, valueAt}
-use Rattle.sweeps.specs.Filled.{pairAt, table}
-use Rattle.exits.specs.Cost.{table as exits-table}
+use Rattle.costs.specs.Cells.{pairAt, table}
 use Rattle.unfold.specs.Unfolded.{Unfolds, Unfolded}
 use Rattle.enquiry.specs.Ready.{Ready, Fit, cleared}
 use Rattle.enquiry.proofs.Rows.{row-8, row-9, row-light, row-10}
@@ -40,18 +38,13 @@ pub is-cleared : (n p : ℕ) (X X′ : List ℕ) → X′ ≡ laid X 0 (replicat
 unfolding cleared
 is-cleared n p X X′ e = e
 
--- the tables are the same under both names
-same-table : (n p : ℕ) (W C : List ℕ) (v x u y : ℕ) → exits-table n p W C v x u y ≡ table n p W C v x u y
-unfolding exits-table Rattle.exits.specs.Cost.value table valueAt value
-same-table n p W C v x u y = refl
-
 module _ (n p c : ℕ) (ls : List ℕ) (d : ℕ) (fs : List ℕ) (S a D b : ℕ) where
   pub unfolds : (W C X Q : List ℕ) (w k : ℕ) → Ready n p c ls d fs W C X → Fit n p S a D b W C Q w k → Unfolds n p c ls d fs W C S a D b X Q
   unfolds W C X Q w k ready fits =
       let l = few-steps (length Q) in
       record {
         valid = ready .valid;
-        exact = record { entry = λ v x u y hv hx hu hy. rw (same-table n p W C v x u y) (ready .exact .entry v x u y hv hx hu hy) };
+        exact = ready .exact;
         from-node = fits .S-below;
         from-protocol = fits .a-below;
         to-node = fits .D-below;

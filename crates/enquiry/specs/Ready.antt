@@ -10,7 +10,7 @@ use Rattle.laws.specs.Unfold.{Exact}
 use Rattle.records.specs.Columns.{hopOf}
 use Rattle.records.specs.Valid.{Valid}
 use Rattle.costs.specs.Cells.{Spells}
-use Rattle.sweeps.specs.Filled.{pairAt, table}
+use Rattle.costs.specs.Cells.{pairAt, table}
 
 -- the room with its first 8 × N² entries 0
 unfoldable pub cleared : (n p : ℕ) → List ℕ → List ℕ

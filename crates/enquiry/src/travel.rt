@@ -4,7 +4,7 @@ ghost use Prim.Native.Nat.{_+_, _*_, _<_, _≤_, min};
 ghost use lib.ListN.{length, getD};
 ghost use Rattle.paper.specs.Outcome.{outcome, most-steps, Ends};
 ghost use Rattle.records.specs.Columns.{hopOf};
-ghost use Rattle.sweeps.specs.Filled.{pairAt};
+ghost use Rattle.costs.specs.Cells.{pairAt};
 ghost use Rattle.enquiry.specs.Ready.{Ready, Fit, cleared};
 use paper::limits::LONGEST;
 use paper::limits::NEVER_MARK;

@@ -4,7 +4,8 @@ use mathlib.Core.Path.{_≡_, ap}
 use mathlib.Core.List.{List}
 use native.Mathlib.Omega.{arith}
 use lib.ListN.{getD}
-use Rattle.exits.specs.Cost.{far, toldAt}
+use Rattle.costs.specs.Costs.{far}
+use Rattle.exits.specs.Cost.{toldAt}
 use Rattle.exits.specs.Lists.{Lists, finishing}
 use Rattle.exits.proofs.Least.{least-low, least-met}
 

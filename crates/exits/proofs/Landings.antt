@@ -12,7 +12,8 @@ use lib.Seq.{getD-set-same, getD-set-other}
 use borrow.Author.Tests.{eq-eqb, ne-eqb, eqb-true}
 use Rattle.paper.specs.Net.{place}
 use Rattle.records.specs.Columns.{from, to, toll, node, kind, xOf, yOf, fee}
-use Rattle.exits.specs.Cost.{cost, far, least}
+use Rattle.costs.specs.Costs.{far, lowerTo}
+use Rattle.exits.specs.Cost.{cost, least}
 use Rattle.exits.specs.Lists.{Gathered, finishing}
 use Rattle.exits.specs.Exits.{crossed, landing, lands, Landed, Closing, Unwrapping, Unwraps}
 use Rattle.exits.proofs.Least.{least-far, least-low, least-met}
@@ -31,18 +32,18 @@ module _ (n p c : ℕ) (ls W C E A : List ℕ) (len x : ℕ) where
   landed-none m h = record { nodes = rw (length-replicate {A = ℕ} m far) h; each = λ u k. getD-replicate {A = ℕ} m u far 0 (omega arith) }
 
   -- link i lowers what stands for the node that it leaves, and no other
-  pub landed-more : {G G′ : List ℕ} (i a k : ℕ) → Landed n p c ls W C E A len x i G → a ≡ from ls i → from ls i < n → k ≡ crossed n p c ls W C E A len x i → G′ ≡ set G a (min (getD G a 0) k)
+  pub landed-more : {G G′ : List ℕ} (i a k : ℕ) → Landed n p c ls W C E A len x i G → a ≡ from ls i → from ls i < n → k ≡ crossed n p c ls W C E A len x i → G′ ≡ lowerTo a k G
       → Landed n p c ls W C E A len x (i + 1) G′
-  unfolding least landing
-  landed-more {G} {G′} i a k l ea ha ek eG = rw eG (record { nodes = rw (length-set G a (min (getD G a 0) k)) (l .nodes); each = λ u h. rw (add-one i) (go u h (ℕ-discrete a u)) })
+  unfolding least landing lowerTo
+  landed-more {G} {G′} i a k l ea ha ek eG = rw eG (record { nodes = rw (length-set G a (min k (getD G a 0))) (l .nodes); each = λ u h. rw (add-one i) (go u h (ℕ-discrete a u)) })
     where
-      go : (u : ℕ) → u < n → Dec (a ≡ u) → getD (set G a (min (getD G a 0) k)) u 0 ≡ least (landing n p c ls W C E A len x u) (suc i)
+      go : (u : ℕ) → u < n → Dec (a ≡ u) → getD (set G a (min k (getD G a 0))) u 0 ≡ least (landing n p c ls W C E A len x u) (suc i)
       go u h (yes e) =
           let here : eqb (from ls i) a ≡ true = eq-eqb (from ls i) a (sym ea) in
-          rw (← e, getD-set-same G a (min (getD G a 0) k) 0 (omega (arith, l .nodes, ea)), l .each a (rw e h), here, ek)
+          rw (← e, getD-set-same G a (min k (getD G a 0)) 0 (omega (arith, l .nodes, ea)), l .each a (rw e h), here, ek) (omega arith)
       go u h (no e) =
           let away : eqb (from ls i) u ≡ false = ne-eqb (from ls i) u (λ f. e (ea ∙ f)) in
-          rw (getD-set-other G a u (min (getD G a 0) k) 0 (λ f. e (sym f)), l .each u h, away) (omega (arith, least-far (landing n p c ls W C E A len x u) i))
+          rw (getD-set-other G a u (min k (getD G a 0)) 0 (λ f. e (sym f)), l .each u h, away) (omega (arith, least-far (landing n p c ls W C E A len x u) i))
 
   pub landed-to : {G : List ℕ} (i : ℕ) → i ≤ c → c ≤ i → Landed n p c ls W C E A len x i G → Landed n p c ls W C E A len x c G
   landed-to i h k l = let e : i ≡ c = omega arith in rw e at l

@@ -4,7 +4,8 @@ use mathlib.Core.Path.{_≡_}
 use native.Mathlib.Omega.{arith}
 use native.Mathlib.Decide.{decLt}
 use native.Mathlib.Numerals.{add-one}
-use Rattle.exits.specs.Cost.{far, least}
+use Rattle.costs.specs.Costs.{far}
+use Rattle.exits.specs.Cost.{least}
 
 pub least-far : (f : ℕ → ℕ) (n : ℕ) → least f n ≤ far
 unfolding least

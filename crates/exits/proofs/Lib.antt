@@ -1,5 +1,5 @@
 pub mod Least
-pub mod Told
+pub mod Telling
 pub mod Listing
 pub mod Places
 pub mod Landings

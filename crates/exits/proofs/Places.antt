@@ -13,7 +13,7 @@ use Rattle.exits.specs.Cost.{toldAt}
 use Rattle.exits.specs.Lists.{Lists, Gathered, Ranged}
 use Rattle.exits.specs.Exits.{leftAt, Leaves, LeavesBy, Reading}
 use Rattle.exits.proofs.Listing.{lists-as, gathered-past, gathered-one}
-use Rattle.exits.proofs.Told.{square}
+use Rattle.costs.proofs.Corners.{square}
 
 not-both : (b : Bool) → b ≡ false → T b → ⊥
 not-both b e t = rw e at t

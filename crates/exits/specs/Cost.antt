@@ -5,17 +5,12 @@ use mathlib.Core.Bool.{cond, _&&_}
 use mathlib.Core.List.{List}
 use lib.Dec.{leb}
 use lib.ListN.{length, getD}
-use Rattle.paper.specs.Limits.{heaviest, longest, over-mark}
-use Rattle.paper.specs.Net.{place}
-use Rattle.laws.specs.Value.{Value, within, over, never}
+use Rattle.paper.specs.Limits.{heaviest, longest}
+use Rattle.costs.specs.Costs.{far}
 
 -- sums and orders of costs are those of the numbers, while steps stay below 65,536
 abbrev pub cost : ℕ → ℕ → ℕ
 cost w s = w * 65536 + s
-
--- more than any cost
-abbrev pub far : ℕ
-far = 1152921504606846976
 
 -- the cost that two entries of the tables tell; far where they tell of no route of at most 4,096 steps
 unfoldable pub told : ℕ → ℕ → ℕ
@@ -23,14 +18,6 @@ told w s = cond (leb w heaviest && leb s longest) (cost w s) far
 
 unfoldable pub toldAt : (W C : List ℕ) → ℕ → ℕ
 toldAt W C i = told (getD W i 0) (getD C i 0)
-
--- the value that two entries stand for
-unfoldable pub value : ℕ → ℕ → Value
-value w s = cond (leb w heaviest) (within w s) (cond (leb w over-mark) over never)
-
--- the table that the rooms W and C hold
-unfoldable pub table : (n p : ℕ) (W C : List ℕ) → (v x u y : ℕ) → Value
-table n p W C v x u y = value (getD W (place p v x * (n * p) + place p u y) 0) (getD C (place p v x * (n * p) + place p u y) 0)
 
 -- the rooms hold an entry for each pair of `size` places
 pub record Square (size : ℕ) (W C : List ℕ) : Type 0 where

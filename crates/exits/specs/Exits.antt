@@ -9,7 +9,8 @@ use lib.ListN.{length, getD}
 use Rattle.paper.specs.Net.{place}
 use Rattle.records.specs.Columns.{from, to, toll, node, kind, xOf, yOf, fee}
 use Rattle.frames.specs.Frames.{mark}
-use Rattle.exits.specs.Cost.{cost, far, toldAt, least, Square}
+use Rattle.costs.specs.Costs.{far}
+use Rattle.exits.specs.Cost.{cost, toldAt, least, Square}
 use Rattle.exits.specs.Lists.{Ranged, finishing}
 
 -- ## An open level, whose record begins at entry o

@@ -3,7 +3,8 @@ use Prim.Native.Nat.{ℕ, _+_, _<_, _≤_}
 use mathlib.Core.Path.{_≡_}
 use mathlib.Core.List.{List}
 use lib.ListN.{length, getD}
-use Rattle.exits.specs.Cost.{far, toldAt, least}
+use Rattle.costs.specs.Costs.{far}
+use Rattle.exits.specs.Cost.{toldAt, least}
 
 -- the exit e stands in the list, at a cost of at most c
 pub record Has (E A : List ℕ) (len e c : ℕ) : Type 0 where

@@ -5,10 +5,10 @@ ghost use lib.ListN.{length, getD};
 ghost use Rattle.frames.specs.Frames.{mark};
 ghost use Rattle.exits.specs.Lists.{Lists, Gathered};
 ghost use Rattle.exits.specs.Exits.{leftAt, Leaves, LeavesBy, Reading};
-use crate::costs::cost_of;
-use crate::costs::row_of;
-use crate::costs::told_at;
 use crate::lists::add_exit;
+use crate::told::told_at;
+use costs::cost::step_cost;
+use costs::entry::row_of;
 use frames::entry;
 use frames::has_bit;
 use frames::weight_left;
@@ -24,7 +24,7 @@ fn left_at(choice: &[u16], o: usize) -> u64
     requires { ⌜ o + 5 ≤ length (now choice) ⌝ }
     ensures { λ r. ⌜ (r ≡ leftAt (now (choice .entry)) o) × (r < 281474976710656) ⌝ }
 {
-    cost_of(weight_left(choice, o), choice[o + 4])
+    step_cost(weight_left(choice, o), choice[o + 4])
 }
 
 fn is_marked(choice: &[u16], o: usize, words: usize, e: usize) -> bool

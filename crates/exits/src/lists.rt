@@ -2,11 +2,12 @@
 ghost use mathlib.Core.Path.{_≡_};
 ghost use Prim.Native.Nat.{_+_, _*_, _<_, _≤_};
 ghost use lib.ListN.{length, getD, set};
-ghost use Rattle.exits.specs.Cost.{far, toldAt};
+ghost use Rattle.costs.specs.Costs.{far};
+ghost use Rattle.exits.specs.Cost.{toldAt};
 ghost use Rattle.exits.specs.Lists.{Ranged, finishing};
-use crate::costs::FAR;
-use crate::costs::smaller;
-use crate::costs::told_at;
+use crate::told::told_at;
+use costs::cost::FAR;
+use costs::cost::least;
 
 fn index(x: u16) -> usize
     ensures { λ r. ⌜ r ≡ x ⌝ }
@@ -55,7 +56,7 @@ pub fn finish(
     let mut best = FAR;
     let mut i = 0;
     while i < len {
-        best = smaller(
+        best = least(
             best,
             over_exit(weight, count, exits, costs, len, size, row, i),
         );

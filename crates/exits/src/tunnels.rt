@@ -1,17 +1,18 @@
 // The exits of a tunnel that may be opened from a level: the places where something unwraps what hides x, each with the least cost from there on.
 ghost use mathlib.Core.Path.{_≡_};
-ghost use Prim.Native.Nat.{_+_, _*_, _<_, _≤_, min};
-ghost use lib.ListN.{length, getD, set};
+ghost use Prim.Native.Nat.{_+_, _*_, _<_, _≤_};
+ghost use lib.ListN.{length, getD};
 ghost use Rattle.records.specs.Valid.{Valid};
-ghost use Rattle.exits.specs.Cost.{far};
+ghost use Rattle.costs.specs.Costs.{far};
 ghost use Rattle.exits.specs.Lists.{Gathered};
 ghost use Rattle.exits.specs.Exits.{Crossing, crossed, Landed, Closing, Unwrapping, Unwraps};
-use crate::costs::FAR;
-use crate::costs::cost_of;
-use crate::costs::row_of;
-use crate::costs::smaller;
 use crate::lists::add_exit;
 use crate::lists::finish;
+use costs::cost::FAR;
+use costs::cost::cost_there;
+use costs::cost::lower_to;
+use costs::cost::step_cost;
+use costs::entry::row_of;
 use paper::place::Place;
 use records::fun_kind;
 use records::fun_node;
@@ -44,14 +45,7 @@ fn cross(
         protocol: x,
     };
     let row = row_of(n * p, place.number(n, p));
-    cost_of(link_weight(links, i), 1) + finish(weight, count, exits, costs, len, n * p, row)
-}
-
-fn lower(lands: &mut [u64], u: usize, cost: u64)
-    requires { ⌜ u < length (now lands) ⌝ }
-    ensures { λ _. ⌜ now (lands .exit) ≡ set (now (lands .entry)) u (min (getD (now (lands .entry)) u 0) cost) ⌝ }
-{
-    lands[u] = smaller(lands[u], cost);
+    step_cost(link_weight(links, i), 1) + finish(weight, count, exits, costs, len, n * p, row)
 }
 
 // Link i, for the node that it leaves.
@@ -73,7 +67,7 @@ fn land(
     ensures { λ _. ⌜ Landed n p c (now (links .entry)) (now (weight .entry)) (now (count .entry)) (now (exits .entry)) (now (costs .entry)) len x (i + 1) (now (lands .exit)) ⌝ }
 {
     let cost = cross(links, c, n, p, weight, count, exits, costs, len, x, i);
-    lower(lands, link_from(links, i), cost);
+    lower_to(lands, link_from(links, i), cost);
 }
 
 // Over the best link of each node: every link is crossed once, however many functions unwrap there.
@@ -113,13 +107,6 @@ fn land_all(
     }
 }
 
-fn land_at(lands: &[u64], u: usize) -> u64
-    requires { ⌜ (u < length (now lands)) × (getD (now lands) u 0 ≤ far) ⌝ }
-    ensures { λ r. ⌜ (r ≡ getD (now (lands .entry)) u 0) × (r ≤ far) ⌝ }
-{
-    lands[u]
-}
-
 // Function j, if it unwraps what hides x.
 fn list_fun(
     funs: &[u32],
@@ -144,7 +131,7 @@ fn list_fun(
         return m;
     }
     let u = fun_node(funs, j);
-    let cost = cost_of(fun_weight(funs, j), 0) + land_at(lands, u);
+    let cost = step_cost(fun_weight(funs, j), 0) + cost_there(lands, u);
     if FAR <= cost {
         return m;
     }

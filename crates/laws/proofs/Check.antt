@@ -13,6 +13,7 @@ use lib.Dec.{leb, ltb, eqb, leb→le, ltb→lt, eqb→eq, eqb-refl, T}
 use Rattle.paper.specs.Net.{Kind, conv, wrap, unwrap, code, Link, link, Fun, fun, net, key, across, charge, both, hop}
 use Rattle.laws.specs.Value.{Value, within, over, never, cap, Le, plus}
 use Rattle.laws.proofs.Fixpoint.{Valid, Relaxed}
+use Rattle.laws.specs.Sets.{Mem}
 
 pub and-left : (a b : Bool) → T (a && b) → T a
 and-left true b t = tt
@@ -28,15 +29,12 @@ and-in false b s t = absurd s
 
 -- ## Tests over a list, and over the numbers below a bound
 
-abbrev pub Mem : {A : Type 0} → A → List A → Type 0
-Mem a [] = ⊥
-Mem a (x ∷ xs) = (a ≡ x) ⊎ Mem a xs
-
 abbrev pub every : {A : Type 0} → (A → Bool) → List A → Bool
 every f [] = true
 every f (x ∷ xs) = f x && every f xs
 
 pub every-at : {A : Type 0} (f : A → Bool) (a : A) (xs : List A) → T (every f xs) → Mem a xs → T (f a)
+unfolding Mem
 every-at f a [] t m = absurd m
 every-at f a (x ∷ xs) t (inl e) = rw e (and-left (f x) (every f xs) t)
 every-at f a (x ∷ xs) t (inr m) = every-at f a xs (and-right (f x) (every f xs) t) m
@@ -57,7 +55,7 @@ below-at (suc n) f t k h = go (decLt k n) (λ l. below-at n f (and-right (f n) (
 -- ## What a step key finds is a record of the network
 
 across-mem : (ls : List Link) (l v : ℕ) (r : ℕ × ℕ) → across ls l v ≡ some r → Mem (link l v (r .0) (r .1)) ls
-unfolding across
+unfolding across Mem
 across-mem [] l v r e = absurd (Option·none-ne-some r e)
 across-mem (link m u s w ∷ ls) l v r e = go (eqb m l) (eqb u v) (eqb→eq m l) (eqb→eq u v) e (λ f. across-mem ls l v r f)
   where
@@ -80,7 +78,7 @@ code-inj unwrap wrap e = absurd e
 code-inj unwrap unwrap e = refl
 
 charge-mem : (fs : List Fun) (v : ℕ) (c : Kind) (x y w : ℕ) → charge fs v c x y ≡ some w → Mem (fun v c x y w) fs
-unfolding charge
+unfolding charge Mem
 charge-mem [] v c x y w e = absurd (Option·none-ne-some w e)
 charge-mem (fun u d r s f ∷ fs) v c x y w e =
     go (eqb u v) (eqb (code d) (code c)) (eqb r x) (eqb s y) (eqb→eq u v) (code-inj d c) (eqb→eq r x) (eqb→eq s y) e (λ g. charge-mem fs v c x y w g)

@@ -9,7 +9,8 @@ use mathlib.Core.Logic.{inl, inr}
 use lib.Dec.{eqb, eqb→eq, T}
 use Rattle.paper.specs.Net.{Kind, code, Link, link, Fun, fun, net, key, across, charge, both, hop}
 use Rattle.laws.proofs.Parse.{eqb-same}
-use Rattle.laws.proofs.Check.{Mem, code-inj}
+use Rattle.laws.proofs.Check.{code-inj}
+use Rattle.laws.specs.Sets.{Mem}
 
 abbrev pub OnceL : List Link → Type 0
 OnceL [] = Unit {0}
@@ -20,7 +21,7 @@ OnceF [] = Unit {0}
 OnceF (fun v c x y w ∷ fs) = ((w′ : ℕ) → Mem (fun v c x y w′) fs → ⊥) × OnceF fs
 
 pub across-once : (ls : List Link) → OnceL ls → (l v t w : ℕ) → Mem (link l v t w) ls → across ls l v ≡ some (t, w)
-unfolding across
+unfolding across Mem
 across-once [] o l v t w m = absurd m
 across-once (link l′ v′ t′ w′ ∷ ls) o l v t w (inl e) =
     let a : l ≡ l′ = cc in let b : v ≡ v′ = cc in let c : t ≡ t′ = cc in let d : w ≡ w′ = cc in
@@ -32,7 +33,7 @@ across-once (link l′ v′ t′ w′ ∷ ls) o l v t w (inr m) = go (eqb l′ l
     go false f rec = rec
 
 pub charge-once : (fs : List Fun) → OnceF fs → (v : ℕ) (c : Kind) (x y w : ℕ) → Mem (fun v c x y w) fs → charge fs v c x y ≡ some w
-unfolding charge
+unfolding charge Mem
 charge-once [] o v c x y w m = absurd m
 charge-once (fun v′ c′ x′ y′ w′ ∷ fs) o v c x y w (inl e) =
     let a : v ≡ v′ = cc in let b : c ≡ c′ = cc in let d : x ≡ x′ = cc in let f : y ≡ y′ = cc in let g : w ≡ w′ = cc in

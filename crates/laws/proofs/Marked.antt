@@ -18,9 +18,10 @@ use Rattle.laws.proofs.Order.{Three, three, less, same, more}
 use Rattle.laws.proofs.Cap.{cap-light, cap-heavy}
 use Rattle.laws.proofs.Parse.{stepped}
 use Rattle.laws.proofs.Outcome.{is-8, is-9, fewer}
-use Rattle.laws.proofs.Check.{every, every-at, Mem, and-left, and-right, and-in, behind}
+use Rattle.laws.proofs.Check.{every, every-at, and-left, and-right, and-in, behind}
 use Rattle.laws.proofs.Certificate.{route, nothing, row, row?, row-holds, row-feasible, arrives}
 use Rattle.laws.proofs.Solve.{table}
+use Rattle.laws.specs.Sets.{Mem}
 
 -- the order of lists, computed
 abbrev lex? : List ℕ → List ℕ → Bool

@@ -7,7 +7,7 @@ use mathlib.Core.Logic.{inl, inr}
 use native.Mathlib.Omega.{arith}
 use native.Mathlib.Decide.{ℕ-discrete}
 use lib.ListN.{length}
-use Rattle.laws.proofs.Check.{Mem}
+use Rattle.laws.specs.Sets.{Mem}
 
 abbrev pub All : (ℕ → Type 0) → List ℕ → Type 0
 All P [] = Unit {0}
@@ -22,6 +22,7 @@ all-map f [] a = tt
 all-map f (c ∷ cs) a = (f c (a .0), all-map f cs (a .1))
 
 pub all-mem : (P : ℕ → Type 0) (cs : List ℕ) → All P cs → (c : ℕ) → Mem c cs → P c
+unfolding Mem
 all-mem P [] a c m = absurd m
 all-mem P (d ∷ cs) a c (inl e) = subst P (sym e) (a .0)
 all-mem P (d ∷ cs) a c (inr m) = all-mem P cs (a .1) c m
@@ -36,6 +37,7 @@ record Cut (M : ℕ) (cs : List ℕ) : Type 0 where
   apart : Distinct left
 
 cut : (M : ℕ) (cs : List ℕ) → All (λ c. c < suc M) cs → Distinct cs → Cut M cs
+unfolding Mem
 cut M [] a d = record { left = []; short = omega arith; lacks = λ h. refl; within = λ c m. m; below = tt; apart = tt }
 cut M (c ∷ cs) a d = go (ℕ-discrete c M) (cut M cs (a .1) (d .1))
   where

@@ -9,8 +9,8 @@ ghost use Rattle.spread.specs.Asked.{Roomy};
 use costs::entry::Entry;
 use costs::entry::lower;
 use costs::entry::put;
+use costs::entry::row_of;
 use paper::limits::NEVER_MARK;
-use spread::begin;
 
 // The first m entries say that there is no route.
 fn clear(weight: &mut [u32], count: &mut [u16], m: usize)
@@ -43,7 +43,7 @@ fn stay(weight: &mut [u32], count: &mut [u16], size: usize) -> bool
         any = lower(
             weight,
             count,
-            begin(size, k) + k,
+            row_of(size, k) + k,
             Entry {
                 weight: 0,
                 count: 0,

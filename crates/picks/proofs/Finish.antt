@@ -17,11 +17,14 @@ use Rattle.laws.proofs.Fixpoint.{Valid}
 use Rattle.laws.proofs.Tight.{ok-rest}
 use Rattle.laws.proofs.Nest.{marks, inmost, nest-begun}
 use Rattle.frames.specs.Frames.{heldAt}
-use Rattle.exits.specs.Cost.{cost, far, told, toldAt, table}
+use Rattle.costs.specs.Cells.{valueAt, table}
+use Rattle.costs.specs.Costs.{far}
+use Rattle.exits.specs.Cost.{cost, told, toldAt}
 use Rattle.exits.specs.Lists.{Lists, finishing}
 use Rattle.exits.specs.Exits.{leftAt, Leaves}
 use Rattle.exits.proofs.Finishing.{finish-low, finish-met}
-use Rattle.exits.proofs.Told.{value-told, told-near, place-lt}
+use Rattle.paper.proofs.Places.{place-lt}
+use Rattle.exits.proofs.Telling.{value-told, told-near}
 
 -- ## Numbers
 
@@ -42,7 +45,7 @@ module _ (n p : ℕ) (W C : List ℕ) where
   at v x u y = place p v x * (n * p) + place p u y
 
   pub within-told : (v x u y : ℕ) {a s : ℕ} → table n p W C v x u y ≡ within a s → s ≤ 4096 → toldAt W C (at v x u y) ≡ cost a s
-  unfolding table toldAt
+  unfolding table valueAt toldAt
   within-told v x u y {a} {s} e h = value-told (getD W (at v x u y) 0) (getD C (at v x u y) 0) a s e h
 
   -- a cost told is that of an entry
@@ -54,7 +57,7 @@ module _ (n p : ℕ) (W C : List ℕ) where
     pub costs : toldAt W C (at v x u y) ≡ cost a s
 
   pub told-within : (v x u y : ℕ) → toldAt W C (at v x u y) < far → Told v x u y
-  unfolding table toldAt
+  unfolding table valueAt toldAt
   told-within v x u y h =
       let r = told-near (getD W (at v x u y) 0) (getD C (at v x u y) 0) h in
       record { a = getD W (at v x u y) 0; s = getD C (at v x u y) 0; is = r .is; short = r .short; costs = r .costs }

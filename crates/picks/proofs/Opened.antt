@@ -16,7 +16,8 @@ use Rattle.records.proofs.Links.{steps-inside}
 use Rattle.frames.specs.Frames.{wordsFor, blank, mark, held, Kept}
 use Rattle.frames.proofs.Heads.{blank-headed, blank-marks, headed-held}
 use Rattle.frames.proofs.Keeps.{kept-held}
-use Rattle.exits.specs.Cost.{cost, table}
+use Rattle.costs.specs.Cells.{table}
+use Rattle.exits.specs.Cost.{cost}
 use Rattle.exits.specs.Lists.{Ranged}
 use Rattle.picks.specs.Pick.{Outward, Looking}
 use Rattle.picks.specs.Contract.{Records}

@@ -16,7 +16,7 @@ use Rattle.records.specs.Columns.{hopOf}
 use Rattle.records.specs.Valid.{Valid}
 use Rattle.records.proofs.Links.{found, kind-is, steps-inside}
 use Rattle.frames.specs.Frames.{wordsFor, heldAt}
-use Rattle.exits.specs.Cost.{table}
+use Rattle.costs.specs.Cells.{table}
 use Rattle.picks.specs.Pick.{Trial, trial, keyOf, Better, Any, ByFun, ByLevel, ByTunnel, topOf}
 use Rattle.picks.specs.Contract.{Taken}
 use Rattle.picks.proofs.Better.{better-then}

@@ -11,7 +11,7 @@ use Rattle.scan.specs.Next.{suits, Next}
 use Rattle.frames.specs.Frames.{wordsFor}
 use Rattle.exits.specs.Lists.{Lists, Gathered, Ranged}
 use Rattle.exits.specs.Exits.{Leaves, Unwrapping, Unwraps, Crossing, Reading}
-use Rattle.exits.proofs.Told.{place-lt}
+use Rattle.paper.proofs.Places.{place-lt}
 use Rattle.exits.proofs.Places.{level-ranged}
 use Rattle.picks.specs.Pick.{Trial, Better, Any, ByFun, Looking, Scanning, ByLevel, Outward, ByTunnel, topOf, serves}
 use Rattle.picks.proofs.Better.{better-none}

@@ -16,8 +16,8 @@ use Rattle.records.specs.Columns.{hopOf}
 use Rattle.records.specs.Valid.{Valid}
 use Rattle.records.proofs.Links.{steps-inside}
 use Rattle.frames.specs.Frames.{wordsFor, heldAt, held, below}
-use Rattle.exits.specs.Cost.{table}
-use Rattle.exits.proofs.Told.{place-lt}
+use Rattle.costs.specs.Cells.{table}
+use Rattle.paper.proofs.Places.{place-lt}
 use Rattle.picks.specs.Pick.{Trial, trial, Looking, ByLevel, ByTunnel}
 use Rattle.picks.specs.Contract.{Taken, Stands}
 use Rattle.picks.proofs.Picking.{nothing, better-taken, bottom-better, inner-better}

@@ -19,12 +19,13 @@ use Rattle.records.specs.Columns.{number, from, to, toll, node, yOf, fee, kindA
 use Rattle.records.specs.Valid.{Valid}
 use Rattle.records.proofs.Links.{step-at, found, kind-is, steps-inside}
 use Rattle.frames.specs.Frames.{heldAt}
-use Rattle.exits.specs.Cost.{cost, far, toldAt}
+use Rattle.costs.specs.Costs.{far}
+use Rattle.exits.specs.Cost.{cost, toldAt}
 use Rattle.exits.specs.Lists.{Lists, Some, Gathered, finishing}
 use Rattle.exits.specs.Exits.{Leaves, lands, Unwraps}
 use Rattle.exits.proofs.Finishing.{finish-low, finish-met}
 use Rattle.exits.proofs.Landings.{lands-low, lands-met}
-use Rattle.exits.proofs.Told.{place-lt}
+use Rattle.paper.proofs.Places.{place-lt}
 use Rattle.picks.proofs.Finish.{at-most-cost, cost-parts, at, within-told, told-within, t, Comes, level-comes, level-low}
 
 -- a place's number tells its node and its protocol

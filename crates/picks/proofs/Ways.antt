@@ -15,7 +15,7 @@ use Rattle.records.specs.Columns.{number, from, to, toll, kind, xOf, yOf, fee, 
 use Rattle.records.specs.Valid.{Valid}
 use Rattle.records.proofs.Links.{step-at, found, kind-is, steps-inside}
 use Rattle.frames.specs.Frames.{wordsFor, heldAt}
-use Rattle.exits.specs.Cost.{table}
+use Rattle.costs.specs.Cells.{table}
 use Rattle.exits.specs.Lists.{Lists}
 use Rattle.exits.specs.Exits.{Leaves}
 use Rattle.picks.specs.Pick.{Trial, trial, Outward, topOf, nextOf}

@@ -14,7 +14,8 @@ use Rattle.laws.specs.Unfold.{Frame, Exact, Opens, Picked, State}
 use Rattle.records.specs.Columns.{hopOf}
 use Rattle.records.specs.Valid.{Valid}
 use Rattle.frames.specs.Frames.{wordsFor, held, below}
-use Rattle.exits.specs.Cost.{table, Square}
+use Rattle.costs.specs.Cells.{table}
+use Rattle.exits.specs.Cost.{Square}
 
 -- a step picked, by its key as the step room spells it
 pub record Taken (hop : Key → ℕ → Option (ℕ × ℕ)) (n p : ℕ) (t : ℕ → ℕ → ℕ → ℕ → Value) (f : Frame) (fs : List Frame) (v x w m : ℕ) (s : List ℕ) (r z u q : ℕ) : Type 0 where

@@ -7,8 +7,8 @@ ghost use Rattle.picks.specs.Opening.{Adds, Meets, MeetsOne, Marking, Op
 use crate::looks::list_outward;
 use crate::looks::words_for;
 use crate::steps::Spot;
-use exits::costs::cost_of;
-use exits::costs::row_of;
+use costs::cost::step_cost;
+use costs::entry::row_of;
 use exits::lists::exit_at;
 use exits::lists::over_exit;
 use frames::add_mark;
@@ -116,7 +116,7 @@ fn write_record(
         n * p,
         words,
         row_of(n * p, number),
-        cost_of(to.weight, to.left),
+        step_cost(to.weight, to.left),
         choice,
         o,
     );

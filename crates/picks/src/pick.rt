@@ -4,7 +4,7 @@ ghost use mathlib.Core.List.{[], _∷_};
 ghost use Prim.Native.Nat.{_*_, _<_};
 ghost use Rattle.records.specs.Columns.{hopOf};
 ghost use Rattle.frames.specs.Frames.{wordsFor, held, below};
-ghost use Rattle.exits.specs.Cost.{table};
+ghost use Rattle.costs.specs.Cells.{table};
 ghost use Rattle.exits.specs.Lists.{Ample};
 ghost use Rattle.picks.specs.Contract.{Taken, Stands};
 use crate::looks::look_level;

@@ -8,8 +8,8 @@ ghost use Rattle.records.specs.Columns.{number, to, toll, xOf, yOf, fee};
 ghost use Rattle.exits.specs.Cost.{cost};
 ghost use Rattle.exits.specs.Lists.{finishing};
 ghost use Rattle.picks.specs.Pick.{trial, Better, Any, OverLink, Trying, nextOf};
-use exits::costs::cost_of;
-use exits::costs::row_of;
+use costs::cost::step_cost;
+use costs::entry::row_of;
 use exits::lists::finish;
 use paper::key::key_before;
 use paper::key::step_key;
@@ -73,7 +73,7 @@ fn way_over(
         protocol: f.onto,
     };
     let row = row_of(n * p, place.number(n, p));
-    let spent = cost_of(f.weight + link_weight(links, i), 1);
+    let spent = step_cost(f.weight + link_weight(links, i), 1);
     finish(weight, count, exits, costs, len, n * p, row) + spent
 }
 
@@ -118,7 +118,7 @@ fn try_link(
         f,
         i,
     );
-    if way != cost_of(at.weight, at.left) {
+    if way != step_cost(at.weight, at.left) {
         return best;
     }
     let to = Spot {

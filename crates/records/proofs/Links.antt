@@ -4,38 +4,15 @@ use Prim.Native.Nat.{ℕ, zero, suc, _+_, _<_, _≤_}
 use mathlib.Core.Path.{_≡_, refl, sym, ap, _∙_}
 use mathlib.Core.List.{List}
 use mathlib.Core.Option.{Option, some}
-use mathlib.Core.Logic.{_⊎_, inl, inr}
 use native.Mathlib.Omega.{arith}
-use native.Mathlib.Decide.{ℕ-discrete}
 use Rattle.paper.specs.Net.{Kind, code, link, fun, Key, key}
-use Rattle.laws.proofs.Check.{Mem, Behind, behind}
+use Rattle.laws.specs.Sets.{Mem}
+use Rattle.laws.proofs.Check.{Behind, behind}
 use Rattle.laws.proofs.Lookup.{OnceL, OnceF, hop-once}
 use Rattle.laws.proofs.Fixpoint as fixpoint
 use Rattle.records.specs.Columns.{number, from, to, toll, node, kind, xOf, yOf, fee, rows, kindAt, linkAt, funAt, linkRows, funRows, netOf, hopOf}
 use Rattle.records.specs.Valid.{Valid}
-
--- ## Listings
-
-pub listed : {A : Type 0} (f : ℕ → A) (i k j : ℕ) → i ≤ j → j < i + k → Mem (f j) (rows f i k)
-unfolding rows
-listed f i zero j h l = absurd (omega arith)
-listed f i (suc k) j h l = go (ℕ-discrete j i) (λ m. listed f (suc i) k j m (omega arith))
-  where
-    go : Dec (j ≡ i) → (suc i ≤ j → Mem (f j) (rows f (suc i) k)) → (f j ≡ f i) ⊎ Mem (f j) (rows f (suc i) k)
-    go (yes e) rec = inl (ap f e)
-    go (no e) rec = inr (rec (omega arith))
-
-pub record Listed {A : Type 0} (f : ℕ → A) (i k : ℕ) (a : A) : Type 0 where
-  pub at : ℕ
-  pub least : i ≤ at
-  pub most : at < i + k
-  pub is : a ≡ f at
-
-pub unlisted : {A : Type 0} (f : ℕ → A) (i k : ℕ) (a : A) → Mem a (rows f i k) → Listed f i k a
-unfolding rows
-unlisted f i zero a m = absurd m
-unlisted f i (suc k) a (inl e) = record { at = i; least = omega arith; most = omega arith; is = e }
-unlisted f i (suc k) a (inr m) = let r = unlisted f (suc i) k a m in record { at = r .at; least = omega (arith, r .least); most = omega (arith, r .most); is = r .is }
+use Rattle.records.proofs.Rows.{rows-mem, mem-row}
 
 -- ## Kinds and their codes
 
@@ -58,10 +35,10 @@ module _ (n p nl : ℕ) (ls : List ℕ) (nf : ℕ) (fs : List ℕ) (valid : Vali
   once-links i zero l = tt
   once-links i (suc k) l = (
     λ u t w m.
-        let r = unlisted (linkAt ls) (suc i) k (link (number ls i) u t w) m in
+        let r = mem-row k (suc i) (linkAt ls) (link (number ls i) u t w) m in
         let e : number ls i ≡ number ls (r .at) = cc (r .is) in
-        let f = valid .link-once i (r .at) (omega arith) (omega (arith, r .most)) e in
-        omega (arith, r .least),
+        let f = valid .link-once i (r .at) (omega arith) (omega (arith, r .high)) e in
+        omega (arith, r .low),
     once-links (suc i) k (omega arith),
   )
 
@@ -70,15 +47,15 @@ module _ (n p nl : ℕ) (ls : List ℕ) (nf : ℕ) (fs : List ℕ) (valid : Vali
   once-funs i zero l = tt
   once-funs i (suc k) l = (
     λ w m.
-        let r = unlisted (funAt fs) (suc i) k (fun (node fs i) (kindAt (kind fs i)) (xOf fs i) (yOf fs i) w) m in
+        let r = mem-row k (suc i) (funAt fs) (fun (node fs i) (kindAt (kind fs i)) (xOf fs i) (yOf fs i) w) m in
         let a : node fs i ≡ node fs (r .at) = cc (r .is) in
         let b : kindAt (kind fs i) ≡ kindAt (kind fs (r .at)) = cc (r .is) in
         let c : xOf fs i ≡ xOf fs (r .at) = cc (r .is) in
         let d : yOf fs i ≡ yOf fs (r .at) = cc (r .is) in
         let hi : i < nf = omega arith in
-        let hr : r .at < nf = omega (arith, r .most) in
+        let hr : r .at < nf = omega (arith, r .high) in
         let f = valid .fun-once i (r .at) hi hr a (kind-inj (kind fs i) (kind fs (r .at)) (valid .fun-kind i hi) (valid .fun-kind (r .at) hr) b) c d in
-        omega (arith, r .least),
+        omega (arith, r .low),
     once-funs (suc i) k (omega arith),
   )
 
@@ -89,7 +66,7 @@ module _ (n p nl : ℕ) (ls : List ℕ) (nf : ℕ) (fs : List ℕ) (valid : Vali
   step-at j i v k x hj hi e a b c =
       let f : from ls i ≡ v = e ∙ a in
       hop-once n p (rows (linkAt ls) 0 nl) (rows (funAt fs) 0 nf) (once-links 0 nl (omega arith)) (once-funs 0 nf (omega arith)) v (kindAt k) x (yOf fs j) (fee fs j) (number ls i) (to ls i) (toll ls i)
-      (is-fun (listed (funAt fs) 0 nf j (omega arith) (omega arith))) (is-link f (listed (linkAt ls) 0 nl i (omega arith) (omega arith)))
+      (is-fun (rows-mem nf 0 j (funAt fs) (omega arith) (omega arith))) (is-link f (rows-mem nl 0 i (linkAt ls) (omega arith) (omega arith)))
     where
       is-fun : Mem (funAt fs j) (rows (funAt fs) 0 nf) → Mem (fun v (kindAt k) x (yOf fs j) (fee fs j)) (rows (funAt fs) 0 nf)
       is-fun m = rw (← a, ← b, ← c) m
@@ -118,15 +95,15 @@ module _ (n p nl : ℕ) (ls : List ℕ) (nf : ℕ) (fs : List ℕ) (valid : Vali
     where
       go : Behind (rows (linkAt ls) 0 nl) (rows (funAt fs) 0 nf) l c x y v u w → Found l c x y v u w
       go b =
-          let r = unlisted (linkAt ls) 0 nl (link l v u (b .toll)) (b .has-link) in
-          let q = unlisted (funAt fs) 0 nf (fun v c x y (b .fee)) (b .has-fun) in
+          let r = mem-row nl 0 (linkAt ls) (link l v u (b .toll)) (b .has-link) in
+          let q = mem-row nf 0 (funAt fs) (fun v c x y (b .fee)) (b .has-fun) in
           let f : b .fee ≡ fee fs (q .at) = cc (q .is) in
           let t : b .toll ≡ toll ls (r .at) = cc (r .is) in
           record {
             j = q .at;
             i = r .at;
-            of-fun = omega (arith, q .most);
-            of-link = omega (arith, r .most);
+            of-fun = omega (arith, q .high);
+            of-link = omega (arith, r .high);
             at-node = cc (q .is);
             at-from = cc (r .is);
             has-kind = cc (q .is);

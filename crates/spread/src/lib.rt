@@ -13,14 +13,7 @@ use costs::cost::is_never;
 use costs::cost::lower_to;
 use costs::entry::lighter;
 use costs::entry::read;
-
-// Where the row of place r begins.
-pub fn begin(size: usize, r: usize) -> usize
-    requires { ⌜ (size ≤ 1024) × (r < size) ⌝ }
-    ensures { λ b. ⌜ (b ≡ r * size) × (b + size ≤ size * size) ⌝ }
-{
-    r * size
-}
+use costs::entry::row_of;
 
 // At the cost c, and then by entry i to place q. Passing over an entry that says `never` also keeps the loop from being vectorised, which is slower for u64.
 fn carry(weight: &[u32], count: &[u16], i: usize, c: u64, q: usize, y: &mut [u64])
@@ -55,7 +48,7 @@ fn go_on(weight: &[u32], count: &[u16], size: usize, a: &[u64], r: usize, y: &mu
     if FAR <= c {
         return;
     }
-    compose(weight, count, begin(size, r), size, c, y);
+    compose(weight, count, row_of(size, r), size, c, y);
 }
 
 pub fn go_on_all(weight: &[u32], count: &[u16], size: usize, a: &[u64], y: &mut [u64])
@@ -109,7 +102,7 @@ fn gain(
     if is_idle(
         weight,
         count,
-        begin(size, at) + r,
+        row_of(size, at) + r,
         c,
         stamp_of(stamps, r),
         since,

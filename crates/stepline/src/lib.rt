@@ -13,9 +13,9 @@ ghost use Rattle.replay.specs.Packet.{whereabouts};
 ghost use Rattle.stepline.specs.Texts.{cellText, keyText, endText, Shown};
 use digits::write::put_byte;
 use digits::write::put_field;
+use digits::write::put_kind;
 use digits::write::put_number;
 use digits::write::put_word;
-use digits::write::put_word_field;
 use replay::packet::Packet;
 use stack::Stack;
 
@@ -62,29 +62,19 @@ fn put_stack(out: &mut [u8], at: usize, s: Stack) -> usize
     put_cells(out, i, &cells, height)
 }
 
-// A tab and the kind word.
-fn put_kind(out: &mut [u8], at: usize, kind: u16) -> usize
-    requires { ⌜ at + length (9 ∷ kindWord (kindAt kind)) ≤ length (now out) ⌝ }
-    ensures { λ r. ⌜ Put (now (out .entry)) (now (out .exit)) at r (9 ∷ kindWord (kindAt kind)) ⌝ }
-{
-    if kind == 0 {
-        return put_word_field(out, at, b"conv");
-    }
-    if kind == 1 {
-        return put_word_field(out, at, b"wrap");
-    }
-    put_word_field(out, at, b"unwrap")
-}
-
 fn put_key(out: &mut [u8], at: usize, key: [u16; 4]) -> usize
     requires { ⌜ at + length (keyText (keyOf key)) ≤ length (now out) ⌝ }
     ensures { λ r. ⌜ Put (now (out .entry)) (now (out .exit)) at r (keyText (keyOf key)) ⌝ }
 {
+    let link = key[0] as u32;
+    let kind = key[1] as u32;
+    let x = key[2] as u32;
+    let y = key[3] as u32;
     let mut i = put_word(out, at, b"step");
-    i = put_field(out, i, key[0] as u32);
-    i = put_kind(out, i, key[1]);
-    i = put_field(out, i, key[2] as u32);
-    put_field(out, i, key[3] as u32)
+    i = put_field(out, i, link);
+    i = put_kind(out, i, kind);
+    i = put_field(out, i, x);
+    put_field(out, i, y)
 }
 
 fn put_end(out: &mut [u8], at: usize, p: Packet) -> usize

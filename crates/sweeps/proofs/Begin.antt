@@ -25,7 +25,7 @@ use Rattle.costs.proofs.Values.{Good, never-heft}
 use Rattle.sweeps.specs.Row.{reached, row}
 use Rattle.sweeps.specs.Sweep.{Stage, stage, stamped, visited, sweep, Visits, none, more, Passing, cleared, diagonal}
 use Rattle.sweeps.specs.Filled.{Filled}
-use Rattle.sweeps.proofs.Corners.{begin-le}
+use Rattle.costs.proofs.Corners.{begin-le}
 use Rattle.sweeps.proofs.Tests.{and-true}
 use Rattle.sweeps.proofs.Lowering.{ws, cs, val, size, Held, Step, step-none, step-then, reached-step, reached-hit, upto-step, upto-hit}
 use Rattle.sweeps.proofs.Quiet.{not-both, dropped, sweep-quiet, sweep-each}

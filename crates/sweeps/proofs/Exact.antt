@@ -22,8 +22,8 @@ use Rattle.costs.specs.Cells.{Spells, less, cells, valueAt}
 use Rattle.costs.proofs.Values.{less-strict}
 use Rattle.costs.proofs.Worth.{worth-good}
 use Rattle.sweeps.specs.Row.{idle, reach, ways, row}
-use Rattle.sweeps.specs.Filled.{pairAt, table}
-use Rattle.sweeps.proofs.Corners.{begin-le}
+use Rattle.costs.specs.Cells.{pairAt, table}
+use Rattle.costs.proofs.Corners.{begin-le}
 use Rattle.sweeps.proofs.Lowering.{val}
 use Rattle.sweeps.proofs.Ways.{reach-conv, reach-tunnel, ways-on}
 use Rattle.sweeps.proofs.Rows.{Rooms, rooms-costs, rooms-pairs, row-closed}

@@ -1,4 +1,3 @@
-pub mod Corners
 pub mod Loops
 pub mod Falls
 pub mod Reach

@@ -18,7 +18,7 @@ use Rattle.costs.specs.Cells.{Cells, cells, valueAt}
 use Rattle.costs.proofs.Values.{not-less-le}
 use Rattle.costs.proofs.Worth.{worth-good, worth-le, Costs, costs-entry}
 use Rattle.sweeps.specs.Row.{reached, merging, merged, ways, row}
-use Rattle.sweeps.proofs.Corners.{begin-le}
+use Rattle.costs.proofs.Corners.{begin-le}
 use Rattle.sweeps.proofs.Falls.{Local}
 use Rattle.sweeps.proofs.Lowering.{fell, val, Held, Step, step-none, reached-step, upto-step}
 use Rattle.sweeps.proofs.Quiet.{not-lowered, merged-each}

@@ -14,7 +14,7 @@ use Rattle.costs.specs.Costs.{far, worth, costOf, costAt, lowerTo}
 use Rattle.costs.specs.Cells.{valueAt}
 use Rattle.costs.proofs.Worth.{Sized, sized-plus, worth-plus, Costs}
 use Rattle.sweeps.specs.Row.{carried, composed, onward, onwards, idle, going, goings}
-use Rattle.sweeps.proofs.Corners.{begin-le}
+use Rattle.costs.proofs.Corners.{begin-le}
 use Rattle.sweeps.proofs.Falls.{Local, Fall, fall-none, lower-fall, lower-hit, upto-fall, upto-low}
 
 -- the rooms W and C hold a cost for each pair of `size` places; the places are reached as A says, at costs of at most m parts; what follows is as B says

@@ -8,7 +8,8 @@ use lib.ListN.{getD, replicate}
 use Rattle.paper.specs.Net.{Key}
 use Rattle.paper.specs.Rooms.{laid, Entries, Tabled}
 use Rattle.laws.proofs.Outcome.{entries}
-use Rattle.sweeps.specs.Filled.{pairAt, table, Filled}
+use Rattle.costs.specs.Cells.{pairAt, table}
+use Rattle.sweeps.specs.Filled.{Filled}
 
 pub tabled : (hop : Key → ℕ → Option (ℕ × ℕ)) (n p : ℕ) (W C X W′ C′ X′ : List ℕ) → Filled hop n p W C W′ C′ → X′ ≡ laid X 0 (replicate (8 * (n * p * (n * p))) 0)
     → Tabled hop n p W C X W′ C′ X′

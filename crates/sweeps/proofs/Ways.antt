@@ -25,7 +25,7 @@ use Rattle.costs.specs.Loop.{upto}
 use Rattle.costs.proofs.Values.{plus-assoc}
 use Rattle.costs.proofs.Worth.{Sized, sized-more, sized-plus, sized-one, worth-one, worth-plus, worth-le, Costs}
 use Rattle.sweeps.specs.Row.{idle, goings, stepCost, crossing, serving, steps, closing, closings, landing, landings, inside, tunnels, reach}
-use Rattle.sweeps.proofs.Corners.{begin-le}
+use Rattle.costs.proofs.Corners.{begin-le}
 use Rattle.sweeps.proofs.Tests.{leaves-true, leaves-yes, suits-true, suits-yes, unwraps-true, unwraps-yes}
 use Rattle.sweeps.proofs.Falls.{Local, Fall, fall-none, lower-fall, lower-hit, upto-fall, upto-low, blank-local}
 use Rattle.sweeps.proofs.Spread as spread

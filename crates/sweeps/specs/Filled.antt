@@ -8,15 +8,7 @@ use lib.ListN.{length, getD}
 use Rattle.paper.specs.Net.{Key, place}
 use Rattle.laws.specs.Value.{Value}
 use Rattle.laws.specs.Unfold.{Exact}
-use Rattle.costs.specs.Cells.{Spells, valueAt}
-
--- where the entry of the places (S, a) and (D, b) stands
-abbrev pub pairAt : (n p S a D b : ℕ) → ℕ
-pairAt n p S a D b = place p S a * (n * p) + place p D b
-
--- the value that stands there
-unfoldable pub table : (n p : ℕ) (W C : List ℕ) → ℕ → ℕ → ℕ → ℕ → Value
-table n p W C S a D b = valueAt W C (pairAt n p S a D b)
+use Rattle.costs.specs.Cells.{Spells, pairAt, table}
 
 -- W′ and C′ are the rooms W and C, filled for the network of `hop`
 pub record Filled (hop : Key → ℕ → Option (ℕ × ℕ)) (n p : ℕ) (W C W′ C′ : List ℕ) : Type 0 where

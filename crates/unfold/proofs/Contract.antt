@@ -23,7 +23,7 @@ use Rattle.records.specs.Valid.{Valid}
 use Rattle.records.proofs.Links.{steps-inside}
 use Rattle.frames.specs.Frames.{wordsFor, heldAt, held, below, Kept}
 use Rattle.frames.proofs.Keeps.{kept-held, kept-below, kept-none, kept-then, kept-fewer, below-length}
-use Rattle.exits.specs.Cost.{table}
+use Rattle.costs.specs.Cells.{table}
 use Rattle.picks.specs.Contract.{Records}
 use Rattle.picks.specs.Opening.{Opening}
 use Rattle.unfold.specs.Contract.{Asks, LevelEnsures, TunnelEnsures, Inside}

@@ -23,11 +23,11 @@ use Rattle.records.proofs.Links.{steps-inside}
 use Rattle.frames.specs.Frames.{wordsFor, blank, mark, withMark, heldAt, held, below}
 use Rattle.frames.proofs.Marks.{mark-new, mark-old}
 use Rattle.frames.proofs.Heads.{blank-headed, blank-marks, marked-headed, headed-held}
-use Rattle.exits.specs.Cost.{value, table}
-use Rattle.exits.proofs.Told.{place-lt}
+use Rattle.costs.specs.Cells.{value, valueAt, pairAt, table}
+use Rattle.paper.proofs.Places.{place-lt}
 use Rattle.picks.proofs.Tunnel.{place-parts}
 use Rattle.unfold.specs.Contract.{Asks, LevelEnsures, Bottom}
-use Rattle.unfold.specs.Unfolded.{entryAt, Unfolds, Route, Bottomed}
+use Rattle.unfold.specs.Unfolded.{Unfolds, Route, Bottomed}
 
 -- ## The bottom level's record
 
@@ -58,13 +58,13 @@ module _ {n p c : ℕ} {ls : List ℕ} {d : ℕ} {fs W C : List ℕ} {S a D b : 
 
   -- the enquiry's weight and steps
   abbrev w₀ : ℕ
-  w₀ = getD W (entryAt n p S a D b) 0
+  w₀ = getD W (pairAt n p S a D b) 0
 
   abbrev s₀ : ℕ
-  s₀ = getD C (entryAt n p S a D b) 0
+  s₀ = getD C (pairAt n p S a D b) 0
 
   is-entry : t S a D b ≡ within w₀ s₀
-  unfolding table value
+  unfolding table valueAt value
   is-entry = rw (le-leb w₀ heaviest (y .light))
 
   valid : fixpoint.Valid hop n p
@@ -129,7 +129,7 @@ module _ {n p c : ℕ} {ls : List ℕ} {d : ℕ} {fs W C : List ℕ} {S a D b : 
 
   -- the same, with the entry's index as it is reckoned
   module _ (row f e : ℕ) (er : row ≡ f * (n * p)) (ef : f ≡ place p S a) (ee : e ≡ place p D b) where
-    entry-is : row + e ≡ entryAt n p S a D b
+    entry-is : row + e ≡ pairAt n p S a D b
     entry-is = rw (er, ef, ee)
 
     pub route-asks : {L₁ : List ℕ} → Bottomed n p L₁ S a D b (getD W (row + e) 0) (getD C (row + e) 0) → length L₁ ≡ length L

@@ -13,7 +13,7 @@ use Rattle.paper.specs.Route.{flat}
 use Rattle.laws.specs.Unfold.{Moved, Levelled, Tunnelled}
 use Rattle.records.specs.Columns.{hopOf}
 use Rattle.frames.specs.Frames.{wordsFor, held, below, Kept}
-use Rattle.exits.specs.Cost.{table}
+use Rattle.costs.specs.Cells.{table}
 use Rattle.picks.specs.Contract.{Stands}
 
 -- rooms of lists, as long as they were

@@ -6,7 +6,7 @@ ghost use Rattle.frames.specs.Frames.{wordsFor};
 ghost use Rattle.exits.specs.Lists.{Ample};
 ghost use Rattle.unfold.specs.Unfolded.{Unfolds, Route, Bottomed};
 use crate::levels::level;
-use exits::costs::row_of;
+use costs::entry::row_of;
 use frames::add_mark;
 use frames::begin;
 use paper::place::Place;

@@ -5,7 +5,7 @@ ghost use lib.ListN.{length, getD};
 ghost use Rattle.paper.specs.Rooms.{laid};
 ghost use Rattle.records.specs.Columns.{hopOf};
 ghost use Rattle.frames.specs.Frames.{wordsFor, held, below};
-ghost use Rattle.exits.specs.Cost.{table};
+ghost use Rattle.costs.specs.Cells.{table};
 ghost use Rattle.exits.specs.Lists.{Ample};
 ghost use Rattle.picks.specs.Contract.{Taken};
 ghost use Rattle.unfold.specs.Contract.{Asks, LevelEnsures, TunnelEnsures};

@@ -8,10 +8,10 @@ ghost use Rattle.costs.specs.Cells.{Cells, cells};
 ghost use Rattle.sweeps.specs.Row.{goings, reach, row};
 ghost use Rattle.ways.specs.Asked.{Sweeping};
 use costs::cost::FAR;
+use costs::entry::row_of;
 use lowering::merge::merge;
 use paper::place::Place;
 use reach::reach_all;
-use spread::begin;
 use spread::gain_all;
 
 // On from the places that one step or one tunnel leads to, wherever there is something to gain.
@@ -84,5 +84,5 @@ pub fn sweep_row(
         protocol: x,
     };
     let at = here.number(n, p);
-    merge(&y, begin(n * p, at), n * p, weight, count, false)
+    merge(&y, row_of(n * p, at), n * p, weight, count, false)
 }

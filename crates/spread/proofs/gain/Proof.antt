@@ -11,8 +11,8 @@ cost-there-requires c κs = search needs
 returns : tie.Need-returns
 returns c = gain-none _ _ _ _ _ _ _ _ _ _ (c .before .cost-there .ensures) (c .if1 .taken)
 
-begin-requires : tie.Need-begin-requires
-begin-requires c κs = search needs
+row-of-requires : tie.Need-row-of-requires
+row-of-requires c κs = search needs
 
 add-is-idle : tie.Need-add-is-idle
 add-is-idle c = search needs
@@ -24,7 +24,7 @@ is-idle-requires : tie.Need-is-idle-requires
 is-idle-requires c κs = search needs
 
 returns-2 : tie.Need-returns-2
-returns-2 c = gain-idle _ _ _ _ _ _ _ _ _ _ (c .before .before .before .before .before .cost-there .ensures) _ _ _ (ap (λ (b : ℕ). b + c .before .before .before .before .before .before .before .before .before .before .before .args .r) (c .before .before .before .begin .ensures .0)) (c .before .before .stamp-of .ensures) (c .before .is-idle .ensures) (c .if2 .taken)
+returns-2 c = gain-idle _ _ _ _ _ _ _ _ _ _ (c .before .before .before .before .before .cost-there .ensures) _ _ _ (ap (λ (b : ℕ). b + c .before .before .before .before .before .before .before .before .before .before .before .args .r) (c .before .before .before .row-of .ensures .0)) (c .before .before .stamp-of .ensures) (c .before .is-idle .ensures) (c .if2 .taken)
 
 go-on-requires : tie.Need-go-on-requires
 go-on-requires c κs = search needs
@@ -33,7 +33,7 @@ same-length : tie.Need-same-length
 same-length c = search needs
 
 returns-3 : tie.Need-returns-3
-returns-3 c = gain-some _ _ _ _ _ _ _ _ _ _ (c .before .before .before .before .before .before .before .before .before .cost-there .ensures) _ _ _ (ap (λ (b : ℕ). b + c .before .before .before .before .before .before .before .before .before .before .before .before .before .before .before .args .r) (c .before .before .before .before .before .before .before .begin .ensures .0)) (c .before .before .before .before .before .before .stamp-of .ensures) (c .before .before .before .before .before .is-idle .ensures) _ (c .before .before .before .before .if2 .left) (c .before .before .go-on .ensures)
+returns-3 c = gain-some _ _ _ _ _ _ _ _ _ _ (c .before .before .before .before .before .before .before .before .before .cost-there .ensures) _ _ _ (ap (λ (b : ℕ). b + c .before .before .before .before .before .before .before .before .before .before .before .before .before .before .before .args .r) (c .before .before .before .before .before .before .before .row-of .ensures .0)) (c .before .before .before .before .before .before .stamp-of .ensures) (c .before .before .before .before .before .is-idle .ensures) _ (c .before .before .before .before .if2 .left) (c .before .before .go-on .ensures)
 
 pub gain-spec : {M : Type 1} → statement M
 gain-spec =
@@ -41,7 +41,7 @@ gain-spec =
     (tie.spec
     cost-there-requires
     returns
-    begin-requires
+    row-of-requires
     add-is-idle
     stamp-of-requires
     is-idle-requires

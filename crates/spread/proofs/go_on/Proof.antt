@@ -10,8 +10,8 @@ cost-there-requires c κs = search needs
 returns : tie.Need-returns
 returns c = not-on _ _ _ _ _ _ _ (c .before .cost-there .ensures) (c .if1 .taken)
 
-begin-requires : tie.Need-begin-requires
-begin-requires c κs = search needs
+row-of-requires : tie.Need-row-of-requires
+row-of-requires c κs = search needs
 
 compose-requires : tie.Need-compose-requires
 compose-requires c κs = search needs
@@ -20,9 +20,9 @@ same-length : tie.Need-same-length
 same-length c = search needs
 
 returns-2 : tie.Need-returns-2
-returns-2 c = gone-on _ _ _ _ _ _ _ _ _ (c .before .before .before .before .before .before .cost-there .ensures) (omega arith) (c .before .before .before .before .begin .ensures .0) (c .before .before .compose .ensures)
+returns-2 c = gone-on _ _ _ _ _ _ _ _ _ (c .before .before .before .before .before .before .cost-there .ensures) (omega arith) (c .before .before .before .before .row-of .ensures .0) (c .before .before .compose .ensures)
 
 pub go-on-spec : {M : Type 1} → statement M
 go-on-spec =
     tie.close
-    (tie.spec cost-there-requires returns begin-requires compose-requires same-length returns-2)
+    (tie.spec cost-there-requires returns row-of-requires compose-requires same-length returns-2)

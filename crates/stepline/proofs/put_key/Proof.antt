@@ -8,6 +8,30 @@ use borrow.Author.Needs.{needs}
 use Rattle.stepline.proofs.put_key.Statement.{statement}
 use Rattle.stepline.proofs.put_key.Tie as tie
 
+array-read-link : tie.Need-array-read-link
+array-read-link c = search needs
+
+cast-link : tie.Need-cast-link
+cast-link c = search needs
+
+array-read-kind : tie.Need-array-read-kind
+array-read-kind c = search needs
+
+cast-kind : tie.Need-cast-kind
+cast-kind c = search needs
+
+array-read-x : tie.Need-array-read-x
+array-read-x c = search needs
+
+cast-x : tie.Need-cast-x
+cast-x c = search needs
+
+array-read-y : tie.Need-array-read-y
+array-read-y c = search needs
+
+cast-y : tie.Need-cast-y
+cast-y c = search needs
+
 slice-aggregate-put-word : tie.Need-slice-aggregate-put-word
 slice-aggregate-put-word c = search needs
 
@@ -15,38 +39,17 @@ put-word-requires : tie.Need-put-word-requires
 unfolding keyText keyOf step-word
 put-word-requires c κs = let b = c .before .before .before in fits (begin (now (b .args .out)) (b .args .at) (keyPieces (b .args .t3))) (b .pre)
 
-array-read-put-field : tie.Need-array-read-put-field
-array-read-put-field c = search needs
-
-cast-put-field : tie.Need-cast-put-field
-cast-put-field c = search needs
-
 put-field-requires : tie.Need-put-field-requires
 unfolding keyText keyOf step-word
 put-field-requires c κs = let b = c .before .before .before .before .before .before .before in fits (go-on (begin (now (b .args .out)) (b .args .at) (keyPieces (b .args .t3))) (c .before .before .before .put-word .ensures)) (b .pre)
-
-array-read-put-kind : tie.Need-array-read-put-kind
-array-read-put-kind c = search needs
 
 put-kind-requires : tie.Need-put-kind-requires
 unfolding keyText keyOf step-word
 put-kind-requires c κs = let b = c .before .before .before .before .before .before .before .before .before .before .before in fits (go-on (go-on (begin (now (b .args .out)) (b .args .at) (keyPieces (b .args .t3))) (c .before .before .before .before .before .before .before .put-word .ensures)) (c .before .before .before .put-field .ensures)) (b .pre)
 
-array-read-put-field-2 : tie.Need-array-read-put-field-2
-array-read-put-field-2 c = search needs
-
-cast-put-field-2 : tie.Need-cast-put-field-2
-cast-put-field-2 c = search needs
-
 put-field-requires-2 : tie.Need-put-field-requires-2
 unfolding keyText keyOf step-word
 put-field-requires-2 c κs = let b = c .before .before .before .before .before .before .before .before .before .before .before .before .before .before .before in fits (go-on (go-on (go-on (begin (now (b .args .out)) (b .args .at) (keyPieces (b .args .t3))) (c .before .before .before .before .before .before .before .before .before .before .before .put-word .ensures)) (c .before .before .before .before .before .before .before .put-field .ensures)) (c .before .before .before .put-kind .ensures)) (b .pre)
-
-array-read-put-field-3 : tie.Need-array-read-put-field-3
-array-read-put-field-3 c = search needs
-
-cast-put-field-3 : tie.Need-cast-put-field-3
-cast-put-field-3 c = search needs
 
 put-field-requires-3 : tie.Need-put-field-requires-3
 unfolding keyText keyOf step-word
@@ -65,18 +68,19 @@ pub put-key-spec : {M : Type 1} → statement M
 put-key-spec =
     tie.close
     (tie.spec
+    array-read-link
+    cast-link
+    array-read-kind
+    cast-kind
+    array-read-x
+    cast-x
+    array-read-y
+    cast-y
     slice-aggregate-put-word
     put-word-requires
-    array-read-put-field
-    cast-put-field
     put-field-requires
-    array-read-put-kind
     put-kind-requires
-    array-read-put-field-2
-    cast-put-field-2
     put-field-requires-2
-    array-read-put-field-3
-    cast-put-field-3
     put-field-requires-3
     same-length
     returns)

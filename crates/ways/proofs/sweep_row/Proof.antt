@@ -16,11 +16,11 @@ number-requires c κs = search needs
 slice-aggregate-merge : tie.Need-slice-aggregate-merge
 slice-aggregate-merge c = search needs
 
-mul-begin : tie.Need-mul-begin
-mul-begin c = search needs
+mul-row-of : tie.Need-mul-row-of
+mul-row-of c = search needs
 
-begin-requires : tie.Need-begin-requires
-begin-requires c κs = search needs
+row-of-requires : tie.Need-row-of-requires
+row-of-requires c κs = search needs
 
 mul-merge : tie.Need-mul-merge
 mul-merge c = search needs
@@ -36,7 +36,7 @@ same-length-2 c = search needs
 
 returns : tie.Need-returns
 unfolding blank
-returns c = row-done _ _ _ _ _ _ _ _ _ _ _ _ _ _ _ _ (c .before .before .before .before .before .before .before .before .before .before .before .find-ways .ensures) (c .before .before .before .before .before .before .before .before .before .number .ensures .0) (c .before .before .before .before .before .before .before .begin .ensures .0) (c .before .before .before .before .merge .ensures)
+returns c = row-done _ _ _ _ _ _ _ _ _ _ _ _ _ _ _ _ (c .before .before .before .before .before .before .before .before .before .before .before .find-ways .ensures) (c .before .before .before .before .before .before .before .before .before .number .ensures .0) (c .before .before .before .before .before .before .before .row-of .ensures .0) (c .before .before .before .before .merge .ensures)
 
 pub sweep-row-spec : {M : Type 1} → statement M
 sweep-row-spec =
@@ -46,8 +46,8 @@ sweep-row-spec =
     find-ways-requires
     number-requires
     slice-aggregate-merge
-    mul-begin
-    begin-requires
+    mul-row-of
+    row-of-requires
     mul-merge
     merge-requires
     same-length

@@ -3,7 +3,7 @@ use denote.Ref.{now}
 use Prim.Native.Nat.{ℕ}
 use lib.ListN.{getD}
 use borrow.Author.Needs.{needs}
-use Rattle.sweeps.specs.Filled.{pairAt}
+use Rattle.costs.specs.Cells.{pairAt}
 use Rattle.enquiry.proofs.Handing.{ends-8, ends-9, ends-10, fit}
 use Rattle.enquiry.proofs.travel.travel.Statement.{statement}
 use Rattle.enquiry.proofs.travel.travel.Tie as tie

@@ -23,8 +23,8 @@ loop-holds c = (omega arith, refl)
 over-exit-requires : tie.Need-over-exit-requires Inv-loop μ-loop
 over-exit-requires c κs = let p = c .before .before .before .before .before .before .pre in (p .0, omega arith, p .1, p .2)
 
-smaller-requires : tie.Need-smaller-requires Inv-loop μ-loop
-smaller-requires c κs = search needs
+least-requires : tie.Need-least-requires Inv-loop μ-loop
+least-requires c κs = search needs
 
 add-i : tie.Need-add-i Inv-loop μ-loop
 add-i c = search needs
@@ -33,7 +33,7 @@ loop-less : tie.Need-loop-less Inv-loop μ-loop
 loop-less c = search needs
 
 loop-again : tie.Need-loop-again Inv-loop μ-loop
-loop-again c = let l = c .before .before .before .loop in (omega arith, least-more _ (l .i) _ _ _ (l .inv .1) (c .before .over-exit .ensures) (c .smaller .ensures))
+loop-again c = let l = c .before .before .before .loop in (omega arith, least-more _ (l .i) _ _ _ (l .inv .1) (c .before .over-exit .ensures) (c .least .ensures))
 
 returns : tie.Need-returns Inv-loop μ-loop
 unfolding finishing
@@ -47,7 +47,7 @@ finish-spec =
     μ-loop
     loop-holds
     over-exit-requires
-    smaller-requires
+    least-requires
     add-i
     loop-less
     loop-again

@@ -1,4 +1,4 @@
-use Rattle.exits.proofs.Told.{entry-in}
+use Rattle.exits.proofs.Telling.{entry-in}
 use native.Mathlib.Omega.{arith}
 use borrow.Author.Needs.{needs}
 use Rattle.exits.proofs.lists.over_exit.Statement.{statement}

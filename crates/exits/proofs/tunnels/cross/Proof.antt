@@ -18,8 +18,8 @@ row-of-requires c κs = search needs
 link-weight-requires : tie.Need-link-weight-requires
 link-weight-requires c κs = search needs
 
-cost-of-requires : tie.Need-cost-of-requires
-cost-of-requires c κs = search needs
+step-cost-requires : tie.Need-step-cost-requires
+step-cost-requires c κs = search needs
 
 mul-finish : tie.Need-mul-finish
 mul-finish c = search needs
@@ -31,7 +31,7 @@ add-result : tie.Need-add-result
 add-result c = search needs
 
 returns : tie.Need-returns
-returns c = let a = c .before .before .before .before .before .before .before .before .before .before .before .args in crossed-is (a .n) (a .p) (a .c) (a .links .now) (a .weight .now) (a .count .now) (a .exits .now) (a .costs .now) (a .len) (a .x) (a .i) _ _ _ _ _ _ (c .before .before .before .before .before .link-to .ensures) (c .before .before .before .before .number .ensures .0) (c .before .before .before .row-of .ensures .0) (c .before .before .link-weight .ensures) (c .before .cost-of .ensures .0) (c .finish .ensures .0)
+returns c = let a = c .before .before .before .before .before .before .before .before .before .before .before .args in crossed-is (a .n) (a .p) (a .c) (a .links .now) (a .weight .now) (a .count .now) (a .exits .now) (a .costs .now) (a .len) (a .x) (a .i) _ _ _ _ _ _ (c .before .before .before .before .before .link-to .ensures) (c .before .before .before .before .number .ensures .0) (c .before .before .before .row-of .ensures .0) (c .before .before .link-weight .ensures) (c .before .step-cost .ensures .0) (c .finish .ensures .0)
 
 pub cross-spec : {M : Type 1} → statement M
 cross-spec =
@@ -42,7 +42,7 @@ cross-spec =
     number-requires
     row-of-requires
     link-weight-requires
-    cost-of-requires
+    step-cost-requires
     mul-finish
     finish-requires
     add-result

@@ -10,15 +10,15 @@ cross-requires c κs = search needs
 link-from-requires : tie.Need-link-from-requires
 link-from-requires c κs = search needs
 
-lower-requires : tie.Need-lower-requires
-lower-requires c κs = let p = c .before .before .before .before .before .before .before .before .before .pre in rw (c .link-from .ensures) (omega (arith, p .2 .nodes, p .1 .link-from _ (p .0)))
+lower-to-requires : tie.Need-lower-to-requires
+lower-to-requires c κs = let p = c .before .before .before .before .before .before .before .before .before .pre in rw (c .link-from .ensures) (omega (arith, p .2 .nodes, p .1 .link-from _ (p .0)))
 
 same-length : tie.Need-same-length
 same-length c = search needs
 
 returns : tie.Need-returns
-returns c = let p = c .before .before .before .before .before .before .before .before .before .before .before .before .pre in landed-more _ _ _ _ _ _ _ _ _ _ (c .before .before .before .before .before .before .before .before .before .before .before .before .args .i) _ _ (p .2) (c .before .before .before .link-from .ensures) (p .1 .link-from _ (p .0)) (c .before .before .before .before .before .cross .ensures) (c .before .before .lower .ensures)
+returns c = let p = c .before .before .before .before .before .before .before .before .before .before .before .before .pre in landed-more _ _ _ _ _ _ _ _ _ _ (c .before .before .before .before .before .before .before .before .before .before .before .before .args .i) _ _ (p .2) (c .before .before .before .link-from .ensures) (p .1 .link-from _ (p .0)) (c .before .before .before .before .before .cross .ensures) (c .before .before .lower-to .ensures)
 
 pub land-spec : {M : Type 1} → statement M
 land-spec =
-    tie.close (tie.spec cross-requires link-from-requires lower-requires same-length returns)
+    tie.close (tie.spec cross-requires link-from-requires lower-to-requires same-length returns)

@@ -22,17 +22,17 @@ fun-node-requires c κs = search needs
 fun-weight-requires : tie.Need-fun-weight-requires
 fun-weight-requires c κs = search needs
 
-cost-of-requires : tie.Need-cost-of-requires
-cost-of-requires c κs = search needs
+step-cost-requires : tie.Need-step-cost-requires
+step-cost-requires c κs = search needs
 
-land-at-requires : tie.Need-land-at-requires
-land-at-requires c κs = let p = c .before .before .before .before .before .before .before .before .before .before .before .pre in let h = p .0 .fun-node _ (p .1 .0) in rw (c .before .before .fun-node .ensures) (omega (arith, h, p .0 .nodes), p .0 .most _ h)
+cost-there-requires : tie.Need-cost-there-requires
+cost-there-requires c κs = let p = c .before .before .before .before .before .before .before .before .before .before .before .pre in rw (c .before .before .fun-node .ensures) (omega (arith, p .0 .fun-node _ (p .1 .0), p .0 .nodes))
 
 add-cost : tie.Need-add-cost
-add-cost c = search needs
+add-cost c = let p = c .before .before .before .before .before .before .before .before .before .before .before .before .pre in omega (arith, c .before .step-cost .ensures .1, c .cost-there .ensures, p .0 .most (c .before .before .before .fun-node .result) (rw (c .before .before .before .fun-node .ensures) (p .0 .fun-node _ (p .1 .0))))
 
 returns-3 : tie.Need-returns-3
-returns-3 c = fun-far (c .before .before .before .before .before .before .before .before .before .before .before .before .before .pre .1 .1) _ _ _ _ (c .before .before .before .before .fun-node .ensures) (c .before .before .before .fun-weight .ensures) (c .before .before .cost-of .ensures .0) (c .before .land-at .ensures .0) (c .if3 .taken)
+returns-3 c = fun-far (c .before .before .before .before .before .before .before .before .before .before .before .before .before .pre .1 .1) _ _ _ _ (c .before .before .before .before .fun-node .ensures) (c .before .before .before .fun-weight .ensures) (c .before .before .step-cost .ensures .0) (c .before .cost-there .ensures) (c .if3 .taken)
 
 fun-y-requires : tie.Need-fun-y-requires
 fun-y-requires c κs = search needs
@@ -53,7 +53,7 @@ returns-4 : tie.Need-returns-4
 returns-4 c =
     let p = c .before .before .before .before .before .before .before .before .before .before .before .before .before .before .before .before .before .before .before .before .before .before .pre in
     let a = c .before .before .before .before .add-exit .ensures in
-    fun-listed (p .1 .1) _ _ _ _ (c .before .before .before .before .before .before .before .before .before .before .before .before .before .fun-node .ensures) (c .before .before .before .before .before .before .before .before .before .before .before .before .fun-weight .ensures) (c .before .before .before .before .before .before .before .before .before .before .before .cost-of .ensures .0) (c .before .before .before .before .before .before .before .before .before .before .land-at .ensures .0)
+    fun-listed (p .1 .1) _ _ _ _ (c .before .before .before .before .before .before .before .before .before .before .before .before .before .fun-node .ensures) (c .before .before .before .before .before .before .before .before .before .before .before .before .fun-weight .ensures) (c .before .before .before .before .before .before .before .before .before .before .before .step-cost .ensures .0) (c .before .before .before .before .before .before .before .before .before .before .cost-there .ensures)
     _ _ _ _ (omega (arith, p .1 .1 .few, p .0 .places-room)) (omega (arith, p .1 .1 .few, p .0 .costs-room)) (omega (arith, c .before .before .before .before .before .before .before .before .before .if3 .left)) (c .before .before .before .before .before .before .before .before .before .before .before .before .before .before .before .before .before .fun-kind .ensures) (c .before .before .before .before .before .before .before .before .before .before .before .before .before .before .before .before .if1 .left) _ (c .before .before .before .before .before .before .before .before .before .before .before .before .before .before .before .fun-x .ensures) (c .before .before .before .before .before .before .before .before .before .before .before .before .before .before .if2 .left)
     (c .before .before .before .before .before .before .before .before .fun-y .ensures) (c .before .before .before .before .before .number .ensures .0) (a .0) (a .1) (a .2)
 
@@ -67,8 +67,8 @@ list-fun-spec =
     returns-2
     fun-node-requires
     fun-weight-requires
-    cost-of-requires
-    land-at-requires
+    step-cost-requires
+    cost-there-requires
     add-cost
     returns-3
     fun-y-requires

@@ -21,8 +21,8 @@ loop-holds : tie.Need-loop-holds Inv-loop μ-loop
 unfolding upto
 loop-holds c = search needs
 
-begin-requires : tie.Need-begin-requires Inv-loop μ-loop
-begin-requires c κs = search needs
+row-of-requires : tie.Need-row-of-requires Inv-loop μ-loop
+row-of-requires c κs = search needs
 
 add-lower : tie.Need-add-lower Inv-loop μ-loop
 add-lower c = search needs
@@ -37,7 +37,7 @@ loop-less : tie.Need-loop-less Inv-loop μ-loop
 loop-less c = search needs
 
 loop-again : tie.Need-loop-again Inv-loop μ-loop
-loop-again c = (search needs, search needs, search needs, turn _ _ _ _ _ (c .before .before .before .before .before .before .before .before .before .loop .inv .3) (staying _ _ _ _ _ (c .before .before .before .before .before .begin .ensures .0) (c .before .before .before .before .lower .ensures)))
+loop-again c = (search needs, search needs, search needs, turn _ _ _ _ _ (c .before .before .before .before .before .before .before .before .before .loop .inv .3) (staying _ _ _ _ _ (c .before .before .before .before .before .row-of .ensures .0) (c .before .before .before .before .lower .ensures)))
 
 same-length : tie.Need-same-length Inv-loop μ-loop
 same-length c = search needs
@@ -58,7 +58,7 @@ stay-spec =
     Inv-loop
     μ-loop
     loop-holds
-    begin-requires
+    row-of-requires
     add-lower
     lower-requires
     add-k

@@ -31,8 +31,8 @@ mul-row-of c = search needs
 row-of-requires : tie.Need-row-of-requires
 row-of-requires c κs = search needs
 
-cost-of-requires : tie.Need-cost-of-requires
-cost-of-requires c κs = search needs
+step-cost-requires : tie.Need-step-cost-requires
+step-cost-requires c κs = search needs
 
 mark-outs-requires : tie.Need-mark-outs-requires
 mark-outs-requires c κs = let s = c .before .before .before .before .before .before .before .before .before .before .before .before .before .before in write-marking (s .pre) _ _ _ (c .before .before .before .before .before .before .before .before .words-for .ensures .0) (c .before .before .before .before .before .before .before .number .ensures .0) (c .before .before .row-of .ensures .0) (c .before .before .row-of .ensures .1) (c .before .before .before .before .before .begin .kept .0)
@@ -41,7 +41,7 @@ same-length : tie.Need-same-length
 same-length c = search needs
 
 returns : tie.Need-returns
-returns c = written (c .before .before .before .before .before .before .before .before .before .before .before .before .before .before .before .before .before .pre) _ _ _ _ _ _ _ (c .before .before .before .before .before .before .before .before .before .before .before .words-for .ensures .0) (c .before .before .before .before .before .before .before .before .before .before .number .ensures .0) refl (c .before .before .before .before .before .row-of .ensures .0) (c .before .before .before .before .cost-of .ensures .0) (c .before .before .before .before .before .before .before .before .begin .ensures) (c .before .before .mark-outs .ensures)
+returns c = written (c .before .before .before .before .before .before .before .before .before .before .before .before .before .before .before .before .before .pre) _ _ _ _ _ _ _ (c .before .before .before .before .before .before .before .before .before .before .before .words-for .ensures .0) (c .before .before .before .before .before .before .before .before .before .before .number .ensures .0) refl (c .before .before .before .before .before .row-of .ensures .0) (c .before .before .before .before .step-cost .ensures .0) (c .before .before .before .before .before .before .before .before .begin .ensures) (c .before .before .mark-outs .ensures)
 
 pub write-record-spec : {M : Type 1} → statement M
 write-record-spec =
@@ -56,7 +56,7 @@ write-record-spec =
     mul-mark-outs
     mul-row-of
     row-of-requires
-    cost-of-requires
+    step-cost-requires
     mark-outs-requires
     same-length
     returns)

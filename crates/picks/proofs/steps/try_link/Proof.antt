@@ -29,14 +29,14 @@ returns-2 c =
 way-over-requires : tie.Need-way-over-requires
 way-over-requires c κs = search needs
 
-cost-of-requires : tie.Need-cost-of-requires
-cost-of-requires c κs = search needs
+step-cost-requires : tie.Need-step-cost-requires
+step-cost-requires c κs = search needs
 
 returns-3 : tie.Need-returns-3
 returns-3 c =
     let a = c .before .before .before .before .before .before .before .before .before .before .before .before .before .before .before .args in
     link-fails (a .n) (a .p) (a .links .now) (a .weight .now) (a .count .now) (a .exits .now) (a .costs .now) (a .len) (a .at .node) (a .at .weight) (a .at .left) (a .f .kind) (a .f .x) (a .f .y) (a .f .weight) (a .f .onto) (a .i)
-    _ _ (c .before .before .way-over .ensures) (c .before .cost-of .ensures .0) (c .if3 .taken)
+    _ _ (c .before .before .way-over .ensures) (c .before .step-cost .ensures .0) (c .if3 .taken)
 
 link-to-requires : tie.Need-link-to-requires
 link-to-requires c κs = search needs
@@ -58,7 +58,7 @@ returns-4 c =
     let a = c .before .before .before .before .before .before .before .before .before .before .before .before .before .before .before .before .before .before .before .before .args in
     link-passes (a .n) (a .p) (a .links .now) (a .weight .now) (a .count .now) (a .exits .now) (a .costs .now) (a .len) (a .at .node) (a .at .weight) (a .at .left) (a .f .kind) (a .f .x) (a .f .y) (a .f .weight) (a .f .onto) (a .i)
     _ _ _ _ _ _ _ (c .before .before .before .before .before .before .before .before .before .before .before .before .before .before .link-from .ensures) (c .before .before .before .before .before .before .before .before .before .before .before .before .if1 .left) (c .before .before .before .before .before .before .before .before .before .before .before .key-over .ensures) (c .before .before .before .before .before .before .before .before .before .key-before .ensures) (not-false _ (c .before .before .before .before .before .before .before .before .if2 .left))
-    (c .before .before .before .before .before .before .before .way-over .ensures) (c .before .before .before .before .before .before .cost-of .ensures .0) (c .before .before .before .before .before .if3 .left) (c .before .before .before .before .link-to .ensures) (c .before .before .before .link-weight .ensures)
+    (c .before .before .before .before .before .before .before .way-over .ensures) (c .before .before .before .before .before .before .step-cost .ensures .0) (c .before .before .before .before .before .if3 .left) (c .before .before .before .before .link-to .ensures) (c .before .before .before .link-weight .ensures)
 
 pub try-link-spec : {M : Type 1} → statement M
 try-link-spec =
@@ -70,7 +70,7 @@ try-link-spec =
     key-before-requires
     returns-2
     way-over-requires
-    cost-of-requires
+    step-cost-requires
     returns-3
     link-to-requires
     link-weight-requires

@@ -19,11 +19,11 @@ row-of-requires c κs = search needs
 link-weight-requires : tie.Need-link-weight-requires
 link-weight-requires c κs = search needs
 
-add-cost-of : tie.Need-add-cost-of
-add-cost-of c = let p = c .before .before .before .before .before .before .before .before .before .before .pre in omega (arith, c .before .link-weight .ensures, p .1 .link-weight _ (p .0), p .1 .fun-weight)
+add-step-cost : tie.Need-add-step-cost
+add-step-cost c = let p = c .before .before .before .before .before .before .before .before .before .before .pre in omega (arith, c .before .link-weight .ensures, p .1 .link-weight _ (p .0), p .1 .fun-weight)
 
-cost-of-requires : tie.Need-cost-of-requires
-cost-of-requires c κs = search needs
+step-cost-requires : tie.Need-step-cost-requires
+step-cost-requires c κs = search needs
 
 mul-finish : tie.Need-mul-finish
 mul-finish c = search needs
@@ -38,7 +38,7 @@ returns : tie.Need-returns
 returns c =
     let a = c .before .before .before .before .before .before .before .before .before .before .before .before .args in
     way-is (a .n) (a .p) (a .links .now) (a .weight .now) (a .count .now) (a .exits .now) (a .costs .now) (a .len) (a .f .weight) (a .f .onto) (a .i) _ _ _ _ _ _
-    (c .before .before .before .before .before .before .link-to .ensures) (c .before .before .before .before .before .number .ensures .0) (c .before .before .before .before .row-of .ensures .0) (c .before .before .before .link-weight .ensures) (c .before .cost-of .ensures .0) (c .finish .ensures .0)
+    (c .before .before .before .before .before .before .link-to .ensures) (c .before .before .before .before .before .number .ensures .0) (c .before .before .before .before .row-of .ensures .0) (c .before .before .before .link-weight .ensures) (c .before .step-cost .ensures .0) (c .finish .ensures .0)
 
 pub way-over-spec : {M : Type 1} → statement M
 way-over-spec =
@@ -49,8 +49,8 @@ way-over-spec =
     number-requires
     row-of-requires
     link-weight-requires
-    add-cost-of
-    cost-of-requires
+    add-step-cost
+    step-cost-requires
     mul-finish
     finish-requires
     add-result

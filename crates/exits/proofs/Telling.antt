@@ -1,26 +1,18 @@
 -- What the tables tell: as a cost it is far, or it is the cost of the value that the two entries stand for. Assumes nothing.
-use Prim.Native.Nat.{ℕ, suc, _+_, _*_, _<_, _≤_}
+use Prim.Native.Nat.{ℕ, _+_, _<_, _≤_}
 use mathlib.Core.Path.{_≡_, refl}
 use mathlib.Core.Bool.{Bool, true, false, cond, _&&_}
 use mathlib.Core.List.{List}
 use native.Mathlib.Omega.{arith}
-use native.Mathlib.Nat.{mul-le-mul-right, mul-le-mul, suc-mul}
 use lib.Dec.{leb}
 use lib.ListN.{length, getD}
 use borrow.Author.Tests.{le-leb, lt-leb, leb-true}
 use Rattle.paper.specs.Limits.{heaviest, longest, over-mark}
 use Rattle.laws.specs.Value.{within, over, never}
-use Rattle.exits.specs.Cost.{cost, far, told, value}
+use Rattle.costs.specs.Cells.{value}
+use Rattle.costs.specs.Costs.{far}
+use Rattle.exits.specs.Cost.{cost, told}
 use Rattle.exits.specs.Lists.{Ranged}
-
-pub place-lt : (n p v x : ℕ) → v < n → x < p → v * p + x < n * p
-place-lt n p v x hv hx = omega (arith, mul-le-mul-right {m = suc v} {n = n} p hv, suc-mul v p)
-
-pub row-le : (size q : ℕ) → q < size → q * size + size ≤ size * size
-row-le size q h = omega (arith, mul-le-mul-right {m = suc q} {n = size} size h, suc-mul q size)
-
-pub square : (size : ℕ) → size ≤ 1024 → size * size ≤ 1048576
-square size h = mul-le-mul h h
 
 pub told-heavy : (w s : ℕ) → heaviest < w → far ≡ told w s
 unfolding told

@@ -1,7 +1,7 @@
 use Rattle.exits.specs.Cost.{toldAt}
 use borrow.Author.Needs.{needs}
-use Rattle.exits.proofs.costs.told_at.Statement.{statement}
-use Rattle.exits.proofs.costs.told_at.Tie as tie
+use Rattle.exits.proofs.told.told_at.Statement.{statement}
+use Rattle.exits.proofs.told.told_at.Tie as tie
 
 mul-told-by : tie.Need-mul-told-by
 mul-told-by c = search needs
