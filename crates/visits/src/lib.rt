@@ -1,4 +1,4 @@
-// A sweep over all the rows.
+// A sweep over the rows, past those that lean on nothing new.
 ghost use mathlib.Core.Path.{_≡_};
 ghost use mathlib.Core.Bool.{false, cond};
 ghost use Prim.Native.Nat.{_<_};

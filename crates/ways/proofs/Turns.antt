@@ -18,7 +18,3 @@ module _ (n p nl : ℕ) (ls : List ℕ) (nf : ℕ) (fs W C : List ℕ) (v x : �
       → at ≡ place p v x → base ≡ at * (n * p) → t ≡ merged base (n * p) y (cells W C false) → t ≡ row n p nl ls nf fs H since v x (cells W C false)
   unfolding row ways
   row-done H since at base y t e f g h = rw (← e, ← f, ← g) h
-
-pub reached-all : (n p nl : ℕ) (ls : List ℕ) (nf : ℕ) (fs W C : List ℕ) (v x : ℕ) (a b d : List ℕ) → b ≡ steps p nl ls nf fs v 0 x a → d ≡ tunnels n p nl ls nf fs W C v x b
-    → d ≡ tunnels n p nl ls nf fs W C v x (steps p nl ls nf fs v 0 x a)
-reached-all n p nl ls nf fs W C v x a b d e g = rw (← e) g

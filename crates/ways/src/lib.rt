@@ -5,40 +5,16 @@ ghost use Prim.Native.Nat.{_*_, _<_, _≤_};
 ghost use lib.ListN.{length};
 ghost use Rattle.paper.specs.Net.{place};
 ghost use Rattle.costs.specs.Cells.{Cells, cells};
-ghost use Rattle.sweeps.specs.Row.{goings, steps, tunnels, reach, row};
-ghost use Rattle.tunnels.specs.Asked.{Tunnelling};
+ghost use Rattle.sweeps.specs.Row.{goings, reach, row};
 ghost use Rattle.ways.specs.Asked.{Sweeping};
 use costs::cost::FAR;
 use costs::entry::row_of;
 use lowering::merge::merge;
 use paper::place::Place;
+use reach::reach_all;
 use spread::gain_all;
-use steps::step_all;
-use tunnels::pass;
 
-// What it takes to get from node v under x to each place by one step or one tunnel.
-fn reach_all(
-    links: &[u32],
-    c: usize,
-    funs: &[u32],
-    d: usize,
-    n: usize,
-    p: usize,
-    weight: &[u32],
-    count: &[u16],
-    v: usize,
-    x: usize,
-    a: &mut [u64],
-)
-    requires { ⌜ Tunnelling n p c (now links) d (now funs) (now weight) (now count) (now a) ⌝ }
-    requires { ⌜ x < p ⌝ }
-    ensures { λ _. ⌜ now (a .exit) ≡ tunnels n p c (now (links .entry)) d (now (funs .entry)) (now (weight .entry)) (now (count .entry)) v x (steps p c (now (links .entry)) d (now (funs .entry)) v 0 x (now (a .entry))) ⌝ }
-{
-    step_all(links, c, funs, d, n, p, v, 0, x, a);
-    pass(links, c, funs, d, n, p, weight, count, v, x, a);
-}
-
-// On from those places, wherever there is something to gain.
+// On from the places that one step or one tunnel leads to, wherever there is something to gain.
 fn find_ways(
     links: &[u32],
     c: usize,

@@ -1,8 +1,8 @@
-// The tunnels from one place: a wrap, on inside, an unwrap of what hides the place's protocol, and its link.
+// The places that one step or one tunnel leads to. A tunnel is a wrap, on inside, an unwrap of what the wrap hid, and its link.
 ghost use mathlib.Core.Path.{_≡_};
 ghost use Prim.Native.Nat.{_*_, _<_};
-ghost use Rattle.sweeps.specs.Row.{inside, tunnels};
-ghost use Rattle.tunnels.specs.Asked.{Tunnelling};
+ghost use Rattle.sweeps.specs.Row.{inside, steps, tunnels};
+ghost use Rattle.reach.specs.Asked.{Tunnelling};
 use costs::cost::FAR;
 use scan::next_fun;
 use spread::go_on_all;
@@ -33,7 +33,7 @@ fn enter(
 }
 
 // Through those tunnels, where there is a wrap.
-pub fn pass(
+fn pass(
     links: &[u32],
     c: usize,
     funs: &[u32],
@@ -58,4 +58,26 @@ pub fn pass(
     enter(links, c, funs, d, n, p, weight, count, v, x, &mut exits);
     close_all(funs, d, n, p, x, &exits, &mut ends);
     land_all(links, c, n, p, x, &ends, a);
+}
+
+// What it takes to get from node v under x to each place by one step or one tunnel.
+pub fn reach_all(
+    links: &[u32],
+    c: usize,
+    funs: &[u32],
+    d: usize,
+    n: usize,
+    p: usize,
+    weight: &[u32],
+    count: &[u16],
+    v: usize,
+    x: usize,
+    a: &mut [u64],
+)
+    requires { ⌜ Tunnelling n p c (now links) d (now funs) (now weight) (now count) (now a) ⌝ }
+    requires { ⌜ x < p ⌝ }
+    ensures { λ _. ⌜ now (a .exit) ≡ tunnels n p c (now (links .entry)) d (now (funs .entry)) (now (weight .entry)) (now (count .entry)) v x (steps p c (now (links .entry)) d (now (funs .entry)) v 0 x (now (a .entry))) ⌝ }
+{
+    step_all(links, c, funs, d, n, p, v, 0, x, a);
+    pass(links, c, funs, d, n, p, weight, count, v, x, a);
 }

@@ -1,8 +1,8 @@
-use Rattle.tunnels.proofs.Turns.{entered}
+use Rattle.reach.proofs.Turns.{entered}
 use Rattle.costs.specs.Costs.{blank}
 use borrow.Author.Needs.{needs}
-use Rattle.tunnels.proofs.enter.Statement.{statement}
-use Rattle.tunnels.proofs.enter.Tie as tie
+use Rattle.reach.proofs.enter.Statement.{statement}
+use Rattle.reach.proofs.enter.Tie as tie
 
 slice-aggregate-step-all : tie.Need-slice-aggregate-step-all
 slice-aggregate-step-all c = search needs

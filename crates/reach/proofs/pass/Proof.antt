@@ -1,10 +1,10 @@
 use native.Mathlib.Omega.{arith}
-use Rattle.tunnels.proofs.Turns.{passed, no-tunnels}
+use Rattle.reach.proofs.Turns.{passed, no-tunnels}
 use Rattle.scan.proofs.Ranged.{link-in, fun-in}
 use Rattle.costs.specs.Costs.{blank}
 use borrow.Author.Needs.{needs}
-use Rattle.tunnels.proofs.pass.Statement.{statement}
-use Rattle.tunnels.proofs.pass.Tie as tie
+use Rattle.reach.proofs.pass.Statement.{statement}
+use Rattle.reach.proofs.pass.Tie as tie
 
 next-fun-requires : tie.Need-next-fun-requires
 next-fun-requires c κs = search needs

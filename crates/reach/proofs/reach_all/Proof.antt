@@ -1,8 +1,7 @@
-use Rattle.ways.proofs.Turns.{reached-all}
-use Rattle.tunnels.proofs.Turns.{still-tunnelling}
+use Rattle.reach.proofs.Turns.{reached-all, still-tunnelling}
 use borrow.Author.Needs.{needs}
-use Rattle.ways.proofs.reach_all.Statement.{statement}
-use Rattle.ways.proofs.reach_all.Tie as tie
+use Rattle.reach.proofs.reach_all.Statement.{statement}
+use Rattle.reach.proofs.reach_all.Tie as tie
 
 step-all-requires : tie.Need-step-all-requires
 step-all-requires c κs = search needs

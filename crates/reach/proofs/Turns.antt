@@ -15,7 +15,7 @@ use Rattle.costs.specs.Costs.{far, lowerTo, blank}
 use Rattle.sweeps.specs.Row.{onward, onwards, steps, closing, closings, landing, landings, inside, tunnels}
 use Rattle.sweeps.proofs.Loops.{upto-none}
 use Rattle.steps.proofs.Turns.{not-served, still-reaching}
-use Rattle.tunnels.specs.Asked.{Tunnelling}
+use Rattle.reach.specs.Asked.{Tunnelling}
 
 blank-far : (m i : ℕ) → i < m → getD (blank m) i 0 ≡ far
 unfolding blank
@@ -59,3 +59,7 @@ module _ (n p nl : ℕ) (ls : List ℕ) (nf : ℕ) (fs W C : List ℕ) (v x : �
 
 pub still-tunnelling : {n p nl : ℕ} {ls : List ℕ} {nf : ℕ} {fs W C a : List ℕ} (a′ : List ℕ) → Tunnelling n p nl ls nf fs W C a → length a′ ≡ length a → Tunnelling n p nl ls nf fs W C a′
 still-tunnelling a′ s e = record { reaching = still-reaching a′ (s .reaching) e; roomy = s .roomy }
+
+pub reached-all : (n p nl : ℕ) (ls : List ℕ) (nf : ℕ) (fs W C : List ℕ) (v x : ℕ) (a b d : List ℕ) → b ≡ steps p nl ls nf fs v 0 x a → d ≡ tunnels n p nl ls nf fs W C v x b
+    → d ≡ tunnels n p nl ls nf fs W C v x (steps p nl ls nf fs v 0 x a)
+reached-all n p nl ls nf fs W C v x a b d e g = rw (← e) g
