@@ -1,10 +1,6 @@
 pub mod Finish
 pub mod Tunnel
-pub mod Better
-pub mod Tries
-pub mod Serves
 pub mod Sought
-pub mod Pass
 pub mod Ways
 pub mod Picking
 pub mod Standing

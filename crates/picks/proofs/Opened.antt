@@ -19,7 +19,7 @@ use Rattle.frames.proofs.Keeps.{kept-held}
 use Rattle.costs.specs.Cells.{table}
 use Rattle.exits.specs.Cost.{cost}
 use Rattle.exits.specs.Lists.{Ranged}
-use Rattle.picks.specs.Pick.{Outward, Looking}
+use Rattle.picks.specs.Look.{Outward, Looking}
 use Rattle.picks.specs.Contract.{Records}
 use Rattle.picks.specs.Opening.{Adds, MeetsOne, Marking, Opening, Writing, Written}
 use Rattle.picks.proofs.Tunnel.{place-parts, listed-opens, opens-listed}

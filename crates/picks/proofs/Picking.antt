@@ -17,10 +17,11 @@ use Rattle.records.specs.Valid.{Valid}
 use Rattle.records.proofs.Links.{found, kind-is, steps-inside}
 use Rattle.frames.specs.Frames.{wordsFor, heldAt}
 use Rattle.costs.specs.Cells.{table}
-use Rattle.picks.specs.Pick.{Trial, trial, keyOf, Better, Any, ByFun, ByLevel, ByTunnel, topOf}
+use Rattle.tries.specs.Trial.{Trial, trial, keyOf, Better, Any, ByFun, topOf}
+use Rattle.picks.specs.Look.{ByLevel, ByTunnel}
 use Rattle.picks.specs.Contract.{Taken}
-use Rattle.picks.proofs.Better.{better-then}
-use Rattle.picks.proofs.Pass.{served-serves, any-tried, tried-any}
+use Rattle.tries.proofs.Better.{better-then}
+use Rattle.tries.proofs.Pass.{served-serves, any-tried, tried-any}
 use Rattle.picks.proofs.Ways.{Way, conv-way, conv-tried, unwrap-way, unwrap-tried, wrap-way, wrap-tried}
 
 -- what the search begins with: a key behind every other

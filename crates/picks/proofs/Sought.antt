@@ -13,9 +13,10 @@ use Rattle.exits.specs.Lists.{Lists, Gathered, Ranged}
 use Rattle.exits.specs.Exits.{Leaves, Unwrapping, Unwraps, Crossing, Reading}
 use Rattle.paper.proofs.Places.{place-lt}
 use Rattle.exits.proofs.Places.{level-ranged}
-use Rattle.picks.specs.Pick.{Trial, Better, Any, ByFun, Looking, Scanning, ByLevel, Outward, ByTunnel, topOf, serves}
-use Rattle.picks.proofs.Better.{better-none}
-use Rattle.picks.proofs.Pass.{serves-served}
+use Rattle.tries.specs.Trial.{Trial, Better, Any, ByFun, Scanning, topOf, serves}
+use Rattle.picks.specs.Look.{Looking, ByLevel, Outward, ByTunnel}
+use Rattle.tries.proofs.Better.{better-none}
+use Rattle.tries.proofs.Pass.{serves-served}
 
 module _ {n p c : ℕ} {ls : List ℕ} {d : ℕ} {fs W C L : List ℕ} {o m : ℕ} (k : Looking n p c ls d fs W C L o m) where
   -- the words' number, as it was reckoned

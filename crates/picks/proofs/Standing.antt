@@ -18,7 +18,8 @@ use Rattle.records.proofs.Links.{steps-inside}
 use Rattle.frames.specs.Frames.{wordsFor, heldAt, held, below}
 use Rattle.costs.specs.Cells.{table}
 use Rattle.paper.proofs.Places.{place-lt}
-use Rattle.picks.specs.Pick.{Trial, trial, Looking, ByLevel, ByTunnel}
+use Rattle.tries.specs.Trial.{Trial, trial}
+use Rattle.picks.specs.Look.{Looking, ByLevel, ByTunnel}
 use Rattle.picks.specs.Contract.{Taken, Stands}
 use Rattle.picks.proofs.Picking.{nothing, better-taken, bottom-better, inner-better}
 

@@ -18,10 +18,11 @@ use Rattle.frames.specs.Frames.{wordsFor, heldAt}
 use Rattle.costs.specs.Cells.{table}
 use Rattle.exits.specs.Lists.{Lists}
 use Rattle.exits.specs.Exits.{Leaves}
-use Rattle.picks.specs.Pick.{Trial, trial, Outward, topOf, nextOf}
+use Rattle.tries.specs.Trial.{Trial, trial, topOf, nextOf}
+use Rattle.picks.specs.Look.{Outward}
 use Rattle.picks.proofs.Finish.{level-test}
 use Rattle.picks.proofs.Tunnel.{tunnel-test}
-use Rattle.picks.proofs.Pass.{Tried}
+use Rattle.tries.proofs.Pass.{Tried}
 
 -- a step that passes, as a trial
 pub record Way (hop : Key → ℕ → Option (ℕ × ℕ)) (n p : ℕ) (t : ℕ → ℕ → ℕ → ℕ → Value) (g : Frame) (gs : List Frame) (v x w m : ℕ) (s : Trial) : Type 0 where

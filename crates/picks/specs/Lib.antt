@@ -1,3 +1,3 @@
-pub mod Pick
+pub mod Look
 pub mod Contract
 pub mod Opening

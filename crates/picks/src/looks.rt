@@ -4,13 +4,14 @@ ghost use Prim.Native.Nat.{_*_, _<_, _≤_};
 ghost use lib.ListN.{length};
 ghost use Rattle.frames.specs.Frames.{wordsFor};
 ghost use Rattle.exits.specs.Lists.{Ample};
-ghost use Rattle.picks.specs.Pick.{trial, Looking, ByLevel, Outward, ByTunnel};
-use crate::funs::try_funs;
-use crate::steps::Spot;
-use crate::steps::Step;
+ghost use Rattle.tries.specs.Trial.{trial};
+ghost use Rattle.picks.specs.Look.{Looking, ByLevel, Outward, ByTunnel};
 use exits::levels::list_level;
 use exits::tunnels::list_tunnel;
 use scan::next_fun;
+use tries::funs::try_funs;
+use tries::trial::Spot;
+use tries::trial::Step;
 
 // The words that hold a bit for each place.
 pub fn words_for(size: usize) -> usize

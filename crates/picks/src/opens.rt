@@ -6,7 +6,6 @@ ghost use Rattle.picks.specs.Contract.{Records};
 ghost use Rattle.picks.specs.Opening.{Adds, Meets, MeetsOne, Marking, Opening, Writing, Written};
 use crate::looks::list_outward;
 use crate::looks::words_for;
-use crate::steps::Spot;
 use costs::cost::step_cost;
 use costs::entry::row_of;
 use exits::lists::exit_at;
@@ -14,6 +13,7 @@ use exits::lists::over_exit;
 use frames::add_mark;
 use frames::begin;
 use paper::place::Place;
+use tries::trial::Spot;
 
 // Marks exit i, if the way over it costs `left`.
 fn mark_out(

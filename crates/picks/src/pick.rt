@@ -10,11 +10,11 @@ ghost use Rattle.picks.specs.Contract.{Taken, Stands};
 use crate::looks::look_level;
 use crate::looks::look_tunnel;
 use crate::looks::words_for;
-use crate::steps::Spot;
-use crate::steps::Step;
 use frames::entry;
 use paper::key::step_key;
 use paper::place::Place;
+use tries::trial::Spot;
+use tries::trial::Step;
 
 // No step: its key comes behind every other.
 fn nothing() -> Step

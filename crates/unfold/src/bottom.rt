@@ -11,7 +11,7 @@ use frames::add_mark;
 use frames::begin;
 use paper::place::Place;
 use picks::looks::words_for;
-use picks::steps::Spot;
+use tries::trial::Spot;
 
 // Writes record 0: it begins at `start` with `weight` and `steps` left, and its one exit is `end`.
 fn write_bottom(

@@ -12,8 +12,8 @@ ghost use Rattle.unfold.specs.Contract.{Asks, LevelEnsures, TunnelEnsure
 use paper::place::Place;
 use picks::opens::open;
 use picks::pick::pick;
-use picks::steps::Spot;
-use picks::steps::Step;
+use tries::trial::Spot;
+use tries::trial::Step;
 
 // Writes a step key as step number `done` of the step room.
 fn put(steps: &mut [u16], done: usize, key: [u16; 4])

@@ -1,0 +1,4 @@
+pub mod Better
+pub mod Crossings
+pub mod Serves
+pub mod Pass
