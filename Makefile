@@ -11,7 +11,9 @@ test:
 	rt staticlib mpakirovu
 	rt check route normalise
 	tools/check-header
+	tools/check-header --seeded
 	examples/run
+	bench/build
 	second/build
 	target/second/driver --self
 	target/second/driver --named target/bin/route target/bin/normalise

@@ -79,7 +79,7 @@ static double once(void (*fill)(const network *, rooms *), const network *net, r
 }
 
 typedef struct {
-    double read, tables, plain, route;
+    double read, tables, plain, route, whole;
 } times;
 
 static const enquiry no_steps = {0, 0, 0, 0};
@@ -96,7 +96,7 @@ static times quickest(const network *net, enquiry route, rooms *mine, rooms *oth
         asked = route;
         whole = fmin(whole, once(proved, net, mine));
     }
-    return (times){read, none - read, plain_c, whole - none};
+    return (times){read, none - read, plain_c, whole - none, whole};
 }
 
 /* The most tunnels that are open at once on the route in the step room. */
@@ -121,8 +121,8 @@ static int compare(const char *name, const network *net, rooms *mine, rooms *oth
     once(plain, net, other);
     int same = accepted && memcmp(mine, other, sizeof *mine) == 0;
     times t = quickest(net, longest(net, mine), mine, other);
-    printf("%-13s %3zu x %2zu %5zu %5zu %6.2f %8.2f %8.2f %6.2f %6u %6u %8zu %7.1f%s\n", name, net->n, net->p, net->c, net->d, t.read * 1e3, t.tables * 1e3, t.plain * 1e3,
-           t.tables / t.plain, told.steps, open_at_once(), told.length, t.route * 1e3, same ? "" : "  DIFFERENT");
+    printf("%-13s %3zu x %2zu %5zu %5zu %6.2f %8.2f %8.2f %6.2f %6u %6u %8zu %7.1f %8.1f%s\n", name, net->n, net->p, net->c, net->d, t.read * 1e3, t.tables * 1e3, t.plain * 1e3,
+           t.tables / t.plain, told.steps, open_at_once(), told.length, t.route * 1e3, t.whole * 1e3, same ? "" : "  DIFFERENT");
     return !same;
 }
 
@@ -170,7 +170,7 @@ int main(void) {
     rooms *mine = malloc(sizeof *mine), *other = malloc(sizeof *other);
     int wrong = 0;
     if (!mine || !other) return 2;
-    printf("%-13s %8s %5s %5s %6s %8s %8s %6s %6s %6s %8s %7s\n", "family", "n x p", "links", "funs", "read", "tables", "plain C", "ratio", "steps", "open", "bytes", "route");
+    printf("%-13s %8s %5s %5s %6s %8s %8s %6s %6s %6s %8s %7s %8s\n", "family", "n x p", "links", "funs", "read", "tables", "plain C", "ratio", "steps", "open", "bytes", "route", "enquiry");
     for (int kind = 0; kind < 3; kind++)
         for (int i = 0; i < 4; i++) {
             carrier(&net, sizes[i][0], sizes[i][1], (enum weights)kind);

@@ -4,7 +4,11 @@
 #include <stddef.h>
 #include <stdint.h>
 
-enum { MOST_RECORDS = 1024, NEVER = 0xffffffffu, OVER = 0xfffffffeu };
+enum { MOST_RECORDS = 1024 };
+
+/* The marks of the weight room: no route, and none that is light enough. */
+#define NEVER 0xffffffffu
+#define OVER 0xfffffffeu
 
 typedef struct {
     size_t n, p, c, d;

@@ -34,7 +34,8 @@
    2. THE NETWORK FILE
 
    Lines of text, fields parted by one tab, every line ended by one LF. Numbers are decimal, without
-   sign or leading zero. There are no empty lines, spaces, carriage returns or comments.
+   sign or leading zero (zero itself is 0). There are no empty lines, spaces, carriage returns or
+   comments.
 
        net   n  p                                      the first line, and no other
        link  number  from  to  weight                  these two in any order
@@ -51,7 +52,8 @@
    length is 0. A room must not overlap another room or the file, and is aligned for its entries.
 
    The library keeps nothing: no heap, no global state, no file, no locale. Threads may call it at the
-   same time, each with rooms of its own; the file may be shared.
+   same time, each with rooms of its own; the file may be shared. So every call reads the file and
+   fills the tables anew: that takes milliseconds for 64 places and some tenths of a second for 1,024.
 
    EXAMPLE (examples/minimal.c)
 

@@ -1,4 +1,4 @@
-//! The named cases: a fixed list of what the work was asked to run, compared as the random cases are. Each says in the
+//! The named cases: a fixed list of cases at the edges, compared as the random cases are. Each says in the
 //! list what it is to give, so that a case that no longer is what its name says fails even where both sides agree.
 
 mod list;

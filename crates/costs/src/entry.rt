@@ -2,7 +2,7 @@
 ghost use mathlib.Core.Path.{_≡_};
 ghost use Prim.Native.Nat.{_+_, _*_, _<_, _≤_};
 ghost use lib.ListN.{length, getD, set};
-ghost use Rattle.costs.specs.Cells.{Cells, cells, less, lowered};
+ghost use Rattle.costs.specs.Cells.{cells, less, lowered};
 
 pub struct Entry {
     pub weight: u32,

@@ -1,12 +1,11 @@
 // One enquiry of a network whose tables are filled: 8, 9, 10, 11 or 0.
 ghost use mathlib.Core.Path.{_≡_};
-ghost use Prim.Native.Nat.{_+_, _*_, _<_, _≤_, min};
+ghost use Prim.Native.Nat.{_*_, _<_, _≤_};
 ghost use lib.ListN.{length, getD};
 ghost use Rattle.paper.specs.Outcome.{outcome, most-steps, Ends};
 ghost use Rattle.records.specs.Columns.{hopOf};
 ghost use Rattle.costs.specs.Cells.{pairAt};
 ghost use Rattle.enquiry.specs.Ready.{Ready, Fit, cleared};
-use paper::limits::LONGEST;
 use paper::limits::NEVER_MARK;
 use paper::limits::OVER_MARK;
 use paper::outcome::Outcome;

@@ -1,7 +1,7 @@
 // The exits of an open level: the places marked in its record, each with what is left there.
 ghost use mathlib.Core.Path.{_≡_};
-ghost use Prim.Native.Nat.{_+_, _*_, _/_, _<_, _≤_};
-ghost use lib.ListN.{length, getD};
+ghost use Prim.Native.Nat.{_+_, _*_, _<_, _≤_};
+ghost use lib.ListN.{length};
 ghost use Rattle.frames.specs.Frames.{mark};
 ghost use Rattle.exits.specs.Lists.{Lists, Gathered};
 ghost use Rattle.exits.specs.Exits.{leftAt, Leaves, LeavesBy, Reading};

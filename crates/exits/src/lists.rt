@@ -1,6 +1,6 @@
 // Lists of exits in two rooms: the places, and the costs of finishing from them.
 ghost use mathlib.Core.Path.{_≡_};
-ghost use Prim.Native.Nat.{_+_, _*_, _<_, _≤_};
+ghost use Prim.Native.Nat.{_+_, _<_, _≤_};
 ghost use lib.ListN.{length, getD, set};
 ghost use Rattle.costs.specs.Costs.{far};
 ghost use Rattle.exits.specs.Cost.{toldAt};

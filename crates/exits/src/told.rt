@@ -1,9 +1,9 @@
 // What the tables tell of a pair of places, as a cost.
 ghost use mathlib.Core.Path.{_≡_};
-ghost use Prim.Native.Nat.{_+_, _*_, _<_, _≤_, min};
-ghost use lib.ListN.{length, getD};
+ghost use Prim.Native.Nat.{_<_, _≤_};
+ghost use lib.ListN.{length};
 ghost use Rattle.costs.specs.Costs.{far};
-ghost use Rattle.exits.specs.Cost.{cost, told, toldAt};
+ghost use Rattle.exits.specs.Cost.{told, toldAt};
 use costs::cost::FAR;
 use costs::cost::step_cost;
 use paper::limits::HEAVIEST;

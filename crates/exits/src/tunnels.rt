@@ -1,9 +1,8 @@
 // The exits of a tunnel that may be opened from a level: the places where something unwraps what hides x, each with the least cost from there on.
 ghost use mathlib.Core.Path.{_≡_};
-ghost use Prim.Native.Nat.{_+_, _*_, _<_, _≤_};
+ghost use Prim.Native.Nat.{_+_, _<_, _≤_};
 ghost use lib.ListN.{length, getD};
 ghost use Rattle.records.specs.Valid.{Valid};
-ghost use Rattle.costs.specs.Costs.{far};
 ghost use Rattle.exits.specs.Lists.{Gathered};
 ghost use Rattle.exits.specs.Exits.{Crossing, crossed, Landed, Closing, Unwrapping, Unwraps};
 use crate::lists::add_exit;

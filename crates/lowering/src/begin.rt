@@ -1,9 +1,9 @@
 // The rooms before the first sweep: no route anywhere, but the route of no steps from each place to itself.
 ghost use mathlib.Core.Path.{_≡_};
 ghost use mathlib.Core.Bool.{false};
-ghost use Prim.Native.Nat.{_+_, _*_, _<_, _≤_};
+ghost use Prim.Native.Nat.{_*_, _≤_};
 ghost use lib.ListN.{length};
-ghost use Rattle.costs.specs.Cells.{Cells, cells};
+ghost use Rattle.costs.specs.Cells.{cells};
 ghost use Rattle.sweeps.specs.Sweep.{cleared, diagonal};
 ghost use Rattle.spread.specs.Asked.{Roomy};
 use costs::entry::Entry;

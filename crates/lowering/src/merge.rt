@@ -2,7 +2,7 @@
 ghost use mathlib.Core.Path.{_≡_};
 ghost use Prim.Native.Nat.{_+_, _<_, _≤_};
 ghost use lib.ListN.{length};
-ghost use Rattle.costs.specs.Cells.{Cells, cells};
+ghost use Rattle.costs.specs.Cells.{cells};
 ghost use Rattle.sweeps.specs.Row.{merging, merged};
 use costs::cost::cost_at;
 use costs::cost::cost_there;

@@ -1,6 +1,4 @@
 // Reads net.tsv and writes its normal file, or the badnet line.
-ghost use Prim.Native.Nat.{_≤_};
-ghost use lib.ListN.{length};
 use libc::STDOUT_FILENO;
 use normal::file::normal_file;
 use programs::load;

@@ -4,14 +4,14 @@ use mathlib.Core.Bool.{Bool, true, false, _&&_}
 use mathlib.Core.List.{List, [], _∷_}
 use mathlib.Core.Option.{Option, none, some}
 use mathlib.Core.Path.{_≡_, refl}
-use mathlib.Core.Logic.{inl, inr}
+use mathlib.Core.Logic.{inl, inr, _↔_}
 use Prim.Native.Nat.{ℕ, _<_, _≤_}
 use native.Mathlib.Omega.{arith}
 use lib.Dec.{eqb, T}
 use lib.ListN.{length}
 use Rattle.paper.specs.Limits.{heaviest}
 use Rattle.paper.specs.Net.{conv, wrap, unwrap, Net, Key, key, hop, across, charge, both}
-use Rattle.paper.specs.Route.{At, at, act, move, then, step, replay, Lex, flat, rank}
+use Rattle.paper.specs.Route.{At, at, act, move, then, step, replay, Feasible, Lex, flat, rank}
 use Rattle.paper.specs.Text.{bytes, same, decimal, decimalTo, written, tabbed, path-word, step-word, conv-word, wrap-word, unwrap-word}
 use Rattle.paper.specs.Normal.{kindWord}
 use Rattle.paper.specs.Trace.{dotted, stepLine, following, stepLines, trace}
@@ -96,3 +96,16 @@ text = trace (hop network-A) 0 0 (key 10 conv 0 0 ∷ key 11 wrap 0 1 ∷ key 12
 listed : T (same text (bytes "path\t20\t3\nstep\t10\tconv\t0\t0\t1\t0\nstep\t11\twrap\t0\t1\t2\t0.1\nstep\t12\tunwrap\t0\t1\t3\t0\n") && eqb (length text) 77)
 unfolding text trace stepLines following stepLine dotted kindWord written tabbed decimal decimalTo same path-word step-word conv-word wrap-word unwrap-word step move act hop both charge across
 listed = tt
+
+-- ## The route of no steps
+
+-- it is feasible exactly when S = D and a = b, and weighs 0
+pub no-steps : (hop : Key → ℕ → Option (ℕ × ℕ)) (S a D b w : ℕ) → Feasible hop S a D b [] w ↔ ((S ≡ D) × (a ≡ b) × (w ≡ 0))
+unfolding replay
+no-steps hop S a D b w = (there, back)
+  where
+    there : Feasible hop S a D b [] w → (S ≡ D) × (a ≡ b) × (w ≡ 0)
+    there f = let e = f .runs in (cc, cc, cc)
+
+    back : (S ≡ D) × (a ≡ b) × (w ≡ 0) → Feasible hop S a D b [] w
+    back e = record { runs = rw (e .0, e .1, e .2) }

@@ -1,7 +1,6 @@
 // Looking for a step among the exits of one record: a step in its level, or a wrap that opens a tunnel from it.
 ghost use mathlib.Core.Path.{_≡_};
-ghost use Prim.Native.Nat.{_*_, _<_, _≤_};
-ghost use lib.ListN.{length};
+ghost use Prim.Native.Nat.{_<_, _≤_};
 ghost use Rattle.frames.specs.Frames.{wordsFor};
 ghost use Rattle.exits.specs.Lists.{Ample};
 ghost use Rattle.tries.specs.Trial.{trial};

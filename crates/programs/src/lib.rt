@@ -1,6 +1,6 @@
 // What the programs share: net.tsv is loaded, and a reply that is no trace and no normal file is written.
 ghost use mathlib.Core.List.{[], _∷_};
-ghost use Prim.Native.Nat.{_+_, _≤_};
+ghost use Prim.Native.Nat.{_≤_};
 ghost use lib.ListN.{length};
 ghost use Rattle.paper.specs.Text.{decimal, written};
 ghost use Rattle.digits.specs.Write.{Put};

@@ -1,6 +1,6 @@
 // The places that one step or one tunnel leads to. A tunnel is a wrap, on inside, an unwrap of what the wrap hid, and its link.
 ghost use mathlib.Core.Path.{_≡_};
-ghost use Prim.Native.Nat.{_*_, _<_};
+ghost use Prim.Native.Nat.{_<_};
 ghost use Rattle.sweeps.specs.Row.{inside, steps, tunnels};
 ghost use Rattle.reach.specs.Asked.{Tunnelling};
 use costs::cost::FAR;

@@ -1,5 +1,6 @@
--- Between two enquiries of one run the tables and the cleared choice room stay as they are. Assumes nothing.
+-- One enquiry of a run; between two of them the tables and the cleared choice room stay as they are. Assumes nothing.
 use mathlib.Core.Path.{_≡_, sym, _∙_}
+use mathlib.Core.Bool.{Bool, true, false}
 use mathlib.Core.List.{List}
 use mathlib.Core.Option.{Option}
 use Prim.Native.Nat.{ℕ, _-_, _*_, _≤_}
@@ -8,27 +9,40 @@ use native.Mathlib.Omega.{arith}
 use lib.ListN.{length, take, length-take}
 use Rattle.paper.specs.Net.{Key}
 use Rattle.paper.specs.Trace.{trace}
-use Rattle.paper.specs.Outcome.{Outcome, outcome, Ends, eight, nine, ten, eleven, zero as found}
+use Rattle.paper.specs.Program.{Replies, six, seven, on}
+use Rattle.paper.specs.Outcome.{Outcome, outcome, known, Ends, eight, nine, ten, eleven, zero as found}
 use Rattle.laws.proofs.Laid.{length-laid}
 use Rattle.enquiry.specs.Ready.{Ready, cleared}
-
--- a refusal writes nothing
-pub nothing : (d i w s l e j m : ℕ) → outcome d i w s l ≡ outcome e j 0 0 0 → l ≤ m
-nothing d i w s l e j m h = let z : l ≡ 0 = cc in omega arith
 
 told : Outcome → ℕ
 told (outcome d i w s l) = l
 
-pub in-room : {hop : Key → ℕ → Option (ℕ × ℕ)} {n p S a D b : ℕ} {Q T Q′ T′ : List ℕ} {d i w s l : ℕ} → Ends hop n p S a D b Q T (outcome d i w s l) Q′ T′ → l ≤ length T′
-unfolding told
-in-room e = go e
-  where
-    go : {hop : Key → ℕ → Option (ℕ × ℕ)} {n p S a D b : ℕ} {Q T Q′ T′ : List ℕ} {o : Outcome} → Ends hop n p S a D b Q T o Q′ T′ → told o ≤ length T′
-    go (eight h) = omega arith
-    go (nine h) = omega arith
-    go (ten h g) = omega arith
-    go (eleven h g) = omega arith
-    go {hop = hop} {S = S} {a = a} {T = T} (found {ks = ks} {w = w} h g) = omega (arith, g, length-laid T 0 (trace hop S a ks w))
+module _ {hop : Key → ℕ → Option (ℕ × ℕ)} {n p S a D b : ℕ} {tabled : Bool} {Q T : List ℕ} where
+  pub is-6 : (k : Bool) {d i w s l : ℕ} → k ≡ known n p S a D b → k ≡ false → outcome d i w s l ≡ outcome 6 0 0 0 0 → Replies hop n p S a D b tabled Q T (outcome d i w s l) Q T
+  is-6 k e f h = rw h (six (sym e ∙ f))
+
+  pub is-7 : (k : Bool) {d i w s l : ℕ} → k ≡ known n p S a D b → k ≡ true → tabled ≡ false → outcome d i w s l ≡ outcome 7 0 0 0 0 → Replies hop n p S a D b tabled Q T (outcome d i w s l) Q T
+  is-7 k e f t h = rw h (seven (sym e ∙ f) t)
+
+  pub goes-on : (k : Bool) {o : Outcome} {Q′ T′ : List ℕ} → k ≡ known n p S a D b → k ≡ true → tabled ≡ true → Ends hop n p S a D b Q T o Q′ T′ → Replies hop n p S a D b tabled Q T o Q′ T′
+  goes-on k e f t h = on (sym e ∙ f) t h
+
+  -- what is told to be in the text room is there
+  pub in-room : {d i w s l : ℕ} {Q′ T′ : List ℕ} → Replies hop n p S a D b tabled Q T (outcome d i w s l) Q′ T′ → l ≤ length T′
+  unfolding told
+  in-room e = go e
+    where
+      ends : {o : Outcome} {Q′ T′ : List ℕ} → Ends hop n p S a D b Q T o Q′ T′ → told o ≤ length T′
+      ends (eight h) = omega arith
+      ends (nine h) = omega arith
+      ends (ten h g) = omega arith
+      ends (eleven h g) = omega arith
+      ends (found {ks = ks} {w = w} h g) = omega (arith, g, length-laid T 0 (trace hop S a ks w))
+
+      go : {o : Outcome} {Q′ T′ : List ℕ} → Replies hop n p S a D b tabled Q T o Q′ T′ → told o ≤ length T′
+      go (six h) = omega arith
+      go (seven h t) = omega arith
+      go (on h t e) = ends e
 
 pub still-ready : (n p c : ℕ) (ls : List ℕ) (d : ℕ) (fs W C X X′ : List ℕ) → X′ ≡ cleared n p X → Ready n p c ls d fs W C X → Ready n p c ls d fs W C X′
 still-ready n p c ls d fs W C X X′ e r = let f : X′ ≡ X = e ∙ sym (r .clear) in rw f r

@@ -1,8 +1,11 @@
 // The route program: the network of net.tsv, and an answer to each line of standard input. The tables are computed once for a run.
 ghost use mathlib.Core.Path.{_≡_};
 ghost use mathlib.Core.Bool.{true};
-ghost use Prim.Native.Nat.{_*_, _<_, _≤_};
+ghost use Prim.Native.Nat.{_≤_};
 ghost use lib.ListN.{length};
+ghost use Rattle.paper.specs.Outcome.{outcome};
+ghost use Rattle.paper.specs.Program.{Replies};
+ghost use Rattle.records.specs.Columns.{hopOf};
 ghost use Rattle.records.specs.Valid.{Valid};
 ghost use Rattle.enquiry.specs.Ready.{Ready};
 use asks::Ask;
@@ -44,7 +47,7 @@ fn enquire(
     b: usize,
 ) -> Outcome
     requires { ⌜ (tabled ≡ true → Ready n p c (now links) f (now funs) (now weight) (now count) (now choice)) ⌝ }
-    ensures { λ r. ⌜ r .length ≤ length (now (text .exit)) ⌝ }
+    ensures { λ r. ⌜ Replies (hopOf n p c (now (links .entry)) f (now (funs .entry))) n p s a d b tabled (now (step .entry)) (now (text .entry)) (outcome (r .number) (r .line) (r .weight) (r .steps) (r .length)) (now (step .exit)) (now (text .exit)) ⌝ }
     ensures { λ _. ⌜ (tabled ≡ true → Ready n p c (now (links .entry)) f (now (funs .entry)) (now (weight .entry)) (now (count .entry)) (now (choice .exit))) ⌝ }
 {
     if !in_range(n, p, s, a, d, b) {

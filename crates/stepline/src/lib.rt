@@ -1,11 +1,9 @@
 // One step line: the key, the node reached, and the stack after the step, bottom first.
 ghost use mathlib.Core.Path.{_≡_};
 ghost use mathlib.Core.List.{_∷_};
-ghost use Prim.Native.Nat.{_+_, _≤_, _<_};
+ghost use Prim.Native.Nat.{_+_, _≤_};
 ghost use lib.ListN.{length};
-ghost use Rattle.paper.specs.Normal.{kindWord};
 ghost use Rattle.paper.specs.Trace.{dotted, stepLine};
-ghost use Rattle.records.specs.Columns.{kindAt};
 ghost use Rattle.digits.specs.Write.{Put};
 ghost use Rattle.stack.specs.Items.{below, items, highest};
 ghost use Rattle.replay.specs.Keys.{keyOf};

@@ -1,6 +1,5 @@
 // The choice room, left as zeros.
 ghost use mathlib.Core.Path.{_≡_};
-ghost use mathlib.Core.List.{List};
 ghost use Prim.Native.Nat.{_*_, _<_, _≤_};
 ghost use lib.ListN.{length, set, replicate};
 ghost use Rattle.paper.specs.Rooms.{laid};

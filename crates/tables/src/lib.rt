@@ -1,9 +1,6 @@
 // The tables of a network: the least weight and the fewest steps for every pair of places, in lent rooms.
-ghost use Prim.Native.Nat.{_*_, _≤_};
-ghost use lib.ListN.{length};
 ghost use Rattle.paper.specs.Rooms.{Tabled};
 ghost use Rattle.records.specs.Columns.{hopOf};
-ghost use Rattle.records.specs.Valid.{Valid};
 ghost use Rattle.sweeps.specs.Filled.{Filled};
 ghost use Rattle.tables.specs.Lent.{Lent};
 use crate::choice::clear_choice;

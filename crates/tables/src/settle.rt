@@ -1,8 +1,6 @@
 // Sweeps until nothing falls.
 ghost use mathlib.Core.Path.{_≡_};
 ghost use mathlib.Core.Bool.{cond};
-ghost use Prim.Native.Nat.{_+_, _*_, _<_, _≤_};
-ghost use lib.ListN.{length};
 ghost use Rattle.records.specs.Columns.{hopOf};
 ghost use Rattle.sweeps.specs.Filled.{Filled};
 ghost use Rattle.ways.specs.Asked.{Sweeping};

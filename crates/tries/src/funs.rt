@@ -3,7 +3,6 @@ ghost use mathlib.Core.Path.{_≡_};
 ghost use Prim.Native.Nat.{_+_, _*_, _<_, _≤_};
 ghost use lib.ListN.{length};
 ghost use Rattle.records.specs.Columns.{xOf, yOf, fee};
-ghost use Rattle.records.specs.Valid.{Valid};
 ghost use Rattle.tries.specs.Trial.{trial, Better, Any, ByFun, Scanning, topOf, nextOf, serves};
 use crate::links::try_links;
 use crate::trial::Spot;

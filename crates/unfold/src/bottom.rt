@@ -1,5 +1,4 @@
 // The bottom level: its record is the enquiry's, and unfolding it writes the whole route.
-ghost use mathlib.Core.Path.{_≡_};
 ghost use Prim.Native.Nat.{_+_, _*_, _<_, _≤_};
 ghost use lib.ListN.{length};
 ghost use Rattle.frames.specs.Frames.{wordsFor};

@@ -103,7 +103,8 @@ fn land(links: &[u32], i: usize, n: usize, p: usize, x: usize, ends: &[u64], a: 
         return;
     }
     let there = land_of(links, i, n, p, x);
-    lower_to(a, there, k + step_cost(link_weight(links, i), 0));
+    let over = k + step_cost(link_weight(links, i), 0);
+    lower_to(a, there, over);
 }
 
 pub fn land_all(links: &[u32], c: usize, n: usize, p: usize, x: usize, ends: &[u64], a: &mut [u64])

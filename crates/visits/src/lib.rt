@@ -3,7 +3,7 @@ ghost use mathlib.Core.Path.{_≡_};
 ghost use mathlib.Core.Bool.{false, cond};
 ghost use Prim.Native.Nat.{_<_};
 ghost use lib.ListN.{length, set};
-ghost use Rattle.sweeps.specs.Sweep.{Stage, stage, visited, nodeRows, turned, sweep, Passing};
+ghost use Rattle.sweeps.specs.Sweep.{stage, visited, nodeRows, turned, sweep, Passing};
 ghost use Rattle.ways.specs.Asked.{Sweeping};
 use news::is_settled;
 use paper::place::Place;

@@ -4,7 +4,7 @@ ghost use mathlib.Core.Bool.{false};
 ghost use Prim.Native.Nat.{_*_, _<_, _≤_};
 ghost use lib.ListN.{length};
 ghost use Rattle.paper.specs.Net.{place};
-ghost use Rattle.costs.specs.Cells.{Cells, cells};
+ghost use Rattle.costs.specs.Cells.{cells};
 ghost use Rattle.sweeps.specs.Row.{goings, reach, row};
 ghost use Rattle.ways.specs.Asked.{Sweeping};
 use costs::cost::FAR;

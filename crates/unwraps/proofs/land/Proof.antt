@@ -22,8 +22,8 @@ link-weight-requires c κs = search needs
 step-cost-requires : tie.Need-step-cost-requires
 step-cost-requires c κs = search needs
 
-add-lower-to : tie.Need-add-lower-to
-add-lower-to c = search needs
+add-over : tie.Need-add-over
+add-over c = search needs
 
 lower-to-requires : tie.Need-lower-to-requires
 lower-to-requires c κs = search needs
@@ -32,7 +32,7 @@ same-length : tie.Need-same-length
 same-length c = search needs
 
 returns-2 : tie.Need-returns-2
-returns-2 c = landed _ _ _ _ _ _ _ _ (c .before .before .before .before .before .before .before .before .before .link-from .ensures) (c .before .before .before .before .before .before .before .before .cost-there .ensures) _ _ _ _ (omega arith) (c .before .before .before .before .before .before .land-of .ensures .0) (c .before .before .before .before .link-weight .ensures) (c .before .before .before .step-cost .ensures .0) (c .before .before .lower-to .ensures)
+returns-2 c = landed _ _ _ _ _ _ _ _ (c .before .before .before .before .before .before .before .before .before .link-from .ensures) (c .before .before .before .before .before .before .before .before .cost-there .ensures) _ _ _ _ (omega arith) (c .before .before .before .before .before .before .land-of .ensures .0) (c .before .before .before .before .before .link-weight .ensures) (c .before .before .before .before .step-cost .ensures .0) (c .before .before .lower-to .ensures)
 
 pub land-spec : {M : Type 1} → statement M
 land-spec =
@@ -44,7 +44,7 @@ land-spec =
     land-of-requires
     link-weight-requires
     step-cost-requires
-    add-lower-to
+    add-over
     lower-to-requires
     same-length
     returns-2)
