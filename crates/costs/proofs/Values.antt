@@ -44,25 +44,11 @@ cap-good w s = go (decLe w 4000000000)
     go (yes h) = rw (cap-light w s h) (h, omega arith)
     go (no h) = rw (cap-heavy w s (omega arith)) tt
 
-pub plus-good : (a b : Value) → Good (plus a b)
-unfolding Good plus
-plus-good (within w s) (within v r) = cap-good (w + v) (s + r)
-plus-good (within w s) over = tt
-plus-good (within w s) never = tt
-plus-good over (within w s) = tt
-plus-good over over = tt
-plus-good over never = tt
-plus-good never b = tt
-
 pub count-small : (e : Value) → Good e → count e ≤ 4097
 unfolding Good count
 count-small (within w s) g = g .1
 count-small over g = omega arith
 count-small never g = omega arith
-
--- a value with one step, as code spells it and as a route counts
-pub value-step : (w : ℕ) → w ≤ 4000000000 → value w 1 ≡ cap w 1
-value-step w h = value-light w 1 h ∙ sym (cap-light w 1 h)
 
 -- what the test of two spellings says
 pub less-true : (w s v r : ℕ) → less w s v r ≡ true → (w < v) ⊎ ((w ≡ v) × (s < r))

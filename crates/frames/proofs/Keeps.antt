@@ -1,18 +1,15 @@
 -- Records stay where the room's entries up to them stay, and a record that is written blank says what was written.
 -- Assumes nothing.
-use Prim.Native.Nat.{ℕ, zero, suc, _+_, _*_, _/_, _%_, _<_, _≤_}
-use mathlib.Core.Path.{_≡_, refl, sym, ap, _∙_, fun-ext}
+use Prim.Native.Nat.{ℕ, zero, suc, _+_, _*_, _/_, _%_, _<_}
+use mathlib.Core.Path.{_≡_, refl, ap, _∙_, fun-ext}
 use mathlib.Core.Bool.{Bool, true, false, _&&_}
 use mathlib.Core.List.{List}
 use native.Mathlib.Omega.{arith}
 use native.Mathlib.Nat.{div-add-mod}
 use lib.Dec.{T, ltb, ltb→lt}
 use lib.ListN.{length, getD}
-use lib.Seq.{getD-set-other}
 use Rattle.paper.specs.Net.{place}
-use Rattle.paper.specs.Rooms.{laid}
-use Rattle.laws.proofs.Laid.{laid-before}
-use Rattle.frames.specs.Frames.{bit, blank, withMark, mark, heldAt, held, below, Kept}
+use Rattle.frames.specs.Frames.{bit, blank, mark, heldAt, held, below, Kept}
 
 module _ (p words : ℕ) where
   -- ## The same entries, the same records
@@ -52,14 +49,6 @@ module _ (p words : ℕ) where
   -- what is kept up to a record is kept up to one before it
   pub kept-fewer : {L L′ : List ℕ} {k : ℕ} → Kept p words (suc k) L L′ → Kept p words k L L′
   kept-fewer a = record { same = λ j i. a .same j (omega arith) }
-
-  -- a store and a text laid behind record k keep it
-  pub kept-laid : {L L′ : List ℕ} (k o : ℕ) (s : List ℕ) → (words + 5) * suc k ≤ o → L′ ≡ laid L o s → Kept p words k L L′
-  kept-laid {L} k o s h e = record { same = λ j i. rw e (sym (laid-before L o s j (omega arith))) }
-
-  pub kept-mark : {L L′ : List ℕ} (k o i : ℕ) → (words + 5) * suc k ≤ o → L′ ≡ withMark L o i → Kept p words k L L′
-  unfolding withMark
-  kept-mark {L} k o i h e = record { same = λ j q. rw e (sym (getD-set-other L (o + 5 + i / 16) j _ 0 (λ f. omega arith))) }
 
   pub below-length : (L : List ℕ) (k : ℕ) → length (below p words L k) ≡ k
   unfolding below

@@ -10,7 +10,7 @@ use Rattle.records.specs.Columns.{node, kind, xOf, yOf}
 use Rattle.scan.specs.Next.{suits, Next}
 use Rattle.frames.specs.Frames.{wordsFor}
 use Rattle.exits.specs.Lists.{Lists, Gathered, Ranged}
-use Rattle.exits.specs.Exits.{Leaves, Unwrapping, Unwraps, Crossing, Reading}
+use Rattle.exits.specs.Exits.{Leaves, Unwrapping, Unwraps, Crossing}
 use Rattle.paper.proofs.Places.{place-lt}
 use Rattle.exits.proofs.Places.{level-ranged}
 use Rattle.tries.specs.Trial.{Trial, Better, Any, ByFun, Scanning, topOf, serves}
@@ -19,11 +19,6 @@ use Rattle.tries.proofs.Better.{better-none}
 use Rattle.tries.proofs.Pass.{serves-served}
 
 module _ {n p c : ℕ} {ls : List ℕ} {d : ℕ} {fs W C L : List ℕ} {o m : ℕ} (k : Looking n p c ls d fs W C L o m) where
-  -- the words' number, as it was reckoned
-  pub looked-reading : {E A : List ℕ} (words : ℕ) → words ≡ wordsFor (n * p) → words ≤ 64 → 1024 ≤ length E → 1024 ≤ length A → Reading words (n * p) W C L o E A
-  looked-reading words e h hE hA =
-      record { square = k .square; few-words = h; record-room = rw e (k .record-room); begins = k .begins; places-room = omega arith; costs-room = omega arith }
-
   pub looked-ranged : {E A : List ℕ} {len words : ℕ} → ((i : ℕ) → getD L i 0 < 65536) → words ≤ 64 → 1024 ≤ length E → 1024 ≤ length A → len ≤ 16 * words
       → Lists (Leaves words (n * p) W C L o) E A len → Ranged (n * p) E A len
   looked-ranged small hw hE hA hl l = level-ranged small (omega arith) (omega arith) l

@@ -1,19 +1,14 @@
 -- One function tried over one link: it is passed over, or it is the better step. Assumes nothing.
-use Prim.Native.Nat.{ℕ, _+_, _-_, _*_, _≤_}
+use Prim.Native.Nat.{ℕ, _+_, _-_, _*_}
 use mathlib.Core.Path.{_≡_, sym, _∙_}
 use mathlib.Core.Bool.{Bool, true, false}
 use mathlib.Core.List.{List, [], _∷_}
-use native.Mathlib.Omega.{arith}
 use Rattle.paper.specs.Net.{before, place}
 use Rattle.records.specs.Columns.{number, from, to, toll}
 use Rattle.exits.specs.Cost.{cost}
 use Rattle.exits.specs.Lists.{finishing}
 use Rattle.tries.specs.Trial.{trial, keyOf, Better, OverLink}
 use Rattle.tries.proofs.Better.{before-lex, not-before-lex, better-same, better-none, better-new}
-
--- what is spent is no more than is left
-pub spent-le : (q s w m : ℕ) → m ≤ 4096 → q + cost s 1 ≡ cost w m → s ≤ w
-spent-le q s w m h e = omega arith
 
 -- the sum that is tested, from its parts
 pub way-is : (n p : ℕ) (ls W C E A : List ℕ) (len f z i t q row g s c : ℕ) → t ≡ to ls i → q ≡ place p t z → row ≡ q * (n * p) → g ≡ toll ls i → s ≡ cost (f + g) 1
