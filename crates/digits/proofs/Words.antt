@@ -5,7 +5,7 @@ use Prim.Native.Nat.{ℕ}
 use borrow.Author.Tests.{eq-eqb, ne-eqb}
 use Rattle.paper.specs.Text.{conv-word, wrap-word, unwrap-word}
 use Rattle.paper.specs.Normal.{kindWord}
-use Rattle.records.specs.Columns.{kindAt}
+use Rattle.network_records.specs.Columns.{kindAt}
 
 module _ (k : ℕ) where
   pub conv-is : k ≡ 0 → kindWord (kindAt k) ≡ 99 ∷ 111 ∷ 110 ∷ 118 ∷ []

@@ -1,15 +1,18 @@
 // A number, read from a part of the file: of any length, since its value is cut down as it grows.
 ghost use mathlib.Core.Path.{_≡_};
-ghost use Prim.Native.Nat.{_+_, _*_, _≤_, _<_, min};
+ghost use Prim.Native.Nat.{_+_, _*_, _≤_, _<_};
 ghost use lib.ListN.{length, getD};
 ghost use Rattle.paper.specs.Text.{number};
-ghost use Rattle.digits.specs.Read.{part, told, toldFrom, digitOf};
+ghost use Rattle.digits.specs.Read.{part, few, told, toldFrom, digitOf};
 
-// What is told where no number is spelled.
-pub const MISSHAPEN: u32 = 4294967295;
+// What is spelled: no number, or one. A value above 1,000,000,000 stands as 1,000,000,001.
+pub enum Number {
+    Misshapen,
+    Value(u32),
+}
 
-// What is told of every number above 1,000,000,000, which no range of the file reaches.
-pub const LARGE: u32 = 1000000001;
+// Stands for every number above 1,000,000,000, which no range of the file reaches.
+const LARGE: u32 = 1000000001;
 
 fn wide(x: u32) -> u64
     ensures { λ r. ⌜ (r ≡ x) × (r < 4294967296) ⌝ }
@@ -17,10 +20,10 @@ fn wide(x: u32) -> u64
     x as u64
 }
 
-// v with one digit more, or the mark for all that is too large.
+// v with one digit more, cut down.
 fn more(v: u32, d: u32) -> u32
     requires { ⌜ (v ≤ 1000000001) × (d ≤ 9) ⌝ }
-    ensures { λ r. ⌜ (r ≡ min (v * 10 + d) 1000000001) × (r ≤ 1000000001) ⌝ }
+    ensures { λ r. ⌜ (r ≡ few (v * 10 + d)) × (r ≤ 1000000001) ⌝ }
 {
     let w = wide(v) * 10 + wide(d);
     if w < 1000000001 {
@@ -45,7 +48,7 @@ fn digit_at(file: &[u8], i: usize) -> u32
 }
 
 // The digits from s up to t.
-fn read_digits(file: &[u8], s: usize, t: usize) -> u32
+fn read_digits(file: &[u8], s: usize, t: usize) -> Number
     requires { ⌜ (s ≤ t) × (t ≤ length (now file)) ⌝ }
     ensures { λ r. ⌜ r ≡ toldFrom 0 (part (now (file .entry)) s t) ⌝ }
 {
@@ -54,27 +57,27 @@ fn read_digits(file: &[u8], s: usize, t: usize) -> u32
     while i < t {
         let d = digit_at(file, i);
         if 9 < d {
-            return MISSHAPEN;
+            return Number::Misshapen;
         }
         v = more(v, d);
         i += 1;
     }
-    v
+    Number::Value(v)
 }
 
 // The number spelled from s up to t, without a leading zero.
-pub fn read_number(file: &[u8], s: usize, t: usize) -> u32
+pub fn read_number(file: &[u8], s: usize, t: usize) -> Number
     requires { ⌜ (s ≤ t) × (t ≤ length (now file)) ⌝ }
     ensures { λ r. ⌜ r ≡ told (number (part (now (file .entry)) s t)) ⌝ }
 {
     if s == t {
-        return MISSHAPEN;
+        return Number::Misshapen;
     }
     if file[s] == 48 {
         if s + 1 == t {
-            return 0;
+            return Number::Value(0);
         }
-        return MISSHAPEN;
+        return Number::Misshapen;
     }
     read_digits(file, s, t)
 }

@@ -5,7 +5,7 @@ ghost use Prim.Native.Nat.{_+_, _≤_, _<_};
 ghost use lib.ListN.{length};
 ghost use Rattle.paper.specs.Text.{decimal, tabbed};
 ghost use Rattle.paper.specs.Normal.{kindWord};
-ghost use Rattle.records.specs.Columns.{kindAt};
+ghost use Rattle.network_records.specs.Columns.{kindAt};
 ghost use Rattle.digits.specs.Write.{Put, digitByte};
 use crate::tens::ten;
 

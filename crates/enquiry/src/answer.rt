@@ -1,21 +1,29 @@
-// An enquiry of an accepted network's records: 6, 7, then the tables and what they say.
+// An enquiry of a network in memory: 6, 7, then the tables and what they say.
 ghost use mathlib.Core.Path.{_≡_};
 ghost use mathlib.Core.Bool.{_&&_};
 ghost use Prim.Native.Nat.{_*_, _≤_};
 ghost use lib.Dec.{leb};
-ghost use Rattle.paper.specs.Outcome.{outcome, rooms, known, Answers};
-ghost use Rattle.records.specs.Columns.{hopOf};
-ghost use Rattle.records.specs.Valid.{Valid};
+ghost use Rattle.paper.specs.Outcome.{outcomeOf, rooms, known};
+ghost use Rattle.network.specs.Network.{nodes, protocols};
+ghost use Rattle.network.specs.Arranged.{Arranged};
+ghost use Rattle.enquiry.specs.Ready.{AnswersIn};
 use crate::travel::refusal;
 use crate::travel::travel;
+use network::size::nodes;
+use network::size::places;
+use network::size::protocols;
 use paper::outcome::Outcome;
+use paper::place::Place;
 use tables::fill;
 
-// Whether S and D are below n, a and b below p.
-pub fn in_range(n: usize, p: usize, s: usize, a: usize, d: usize, b: usize) -> bool
-    ensures { λ r. ⌜ r ≡ known n p s a d b ⌝ }
+// Whether both are places of the network.
+pub fn in_range(net: &[u32], start: Place, end: Place) -> bool
+    requires { ⌜ Arranged (now net) ⌝ }
+    ensures { λ r. ⌜ r ≡ known (nodes (now (net .entry))) (protocols (now (net .entry))) (start .node) (start .protocol) (end .node) (end .protocol) ⌝ }
 {
-    (((s < n) & (d < n)) & (a < p)) & (b < p)
+    let n = nodes(net);
+    let p = protocols(net);
+    (((start.node < n) & (end.node < n)) & (start.protocol < p)) & (end.protocol < p)
 }
 
 // Whether rooms of these lengths are long enough for the tables of `size` places.
@@ -28,47 +36,24 @@ fn enough(size: usize, weights: usize, counts: usize, choices: usize) -> bool
 }
 
 pub fn answer(
-    links: &[u32],
-    c: usize,
-    funs: &[u32],
-    f: usize,
-    n: usize,
-    p: usize,
+    net: &[u32],
+    start: Place,
+    end: Place,
     weight: &mut [u32],
     count: &mut [u16],
     choice: &mut [u16],
     step: &mut [u16],
     text: &mut [u8],
-    s: usize,
-    a: usize,
-    d: usize,
-    b: usize,
 ) -> Outcome
-    requires { ⌜ Valid n p c (now links) f (now funs) ⌝ }
-    ensures { λ r. ⌜ Answers (hopOf n p c (now (links .entry)) f (now (funs .entry))) n p s a d b (rooms (now (weight .entry)) (now (count .entry)) (now (choice .entry)) (now (step .entry)) (now (text .entry))) (outcome (r .number) (r .line) (r .weight) (r .steps) (r .length)) (rooms (now (weight .exit)) (now (count .exit)) (now (choice .exit)) (now (step .exit)) (now (text .exit))) ⌝ }
+    requires { ⌜ Arranged (now net) ⌝ }
+    ensures { λ r. ⌜ AnswersIn (now (net .entry)) start end (rooms (now (weight .entry)) (now (count .entry)) (now (choice .entry)) (now (step .entry)) (now (text .entry))) (outcomeOf r) (rooms (now (weight .exit)) (now (count .exit)) (now (choice .exit)) (now (step .exit)) (now (text .exit))) ⌝ }
 {
-    if !in_range(n, p, s, a, d, b) {
+    if !in_range(net, start, end) {
         return refusal(6, 0);
     }
-    if !enough(n * p, weight.len(), count.len(), choice.len()) {
+    if !enough(places(net), weight.len(), count.len(), choice.len()) {
         return refusal(7, 0);
     }
-    fill(links, c, funs, f, n, p, weight, count, choice);
-    travel(
-        links,
-        c,
-        funs,
-        f,
-        n,
-        p,
-        weight,
-        count,
-        choice,
-        step,
-        text,
-        s,
-        a,
-        d,
-        b,
-    )
+    fill(net, weight, count, choice);
+    travel(net, start, end, weight, count, choice, step, text)
 }

@@ -1,12 +1,15 @@
 // The route enquiry: every network file, every enquiry of four numbers and every size of lent room gets its outcome.
-ghost use Rattle.paper.specs.Outcome.{outcome, rooms, Routed};
+ghost use Rattle.paper.specs.Outcome.{outcomeOf, rooms, Routed};
 use crate::answer::answer;
+use crate::load::load;
 use crate::travel::refusal;
-use netfile::read;
+use network::size::ROOM;
+use network_records::index;
 use paper::outcome::Outcome;
-use records::index;
+use paper::place::Place;
 
 pub mod answer;
+pub mod load;
 pub mod travel;
 
 pub fn route(
@@ -21,29 +24,20 @@ pub fn route(
     step: &mut [u16],
     text: &mut [u8],
 ) -> Outcome
-    ensures { λ r. ⌜ Routed (now (file .entry)) s a d b (rooms (now (weight .entry)) (now (count .entry)) (now (choice .entry)) (now (step .entry)) (now (text .entry))) (outcome (r .number) (r .line) (r .weight) (r .steps) (r .length)) (rooms (now (weight .exit)) (now (count .exit)) (now (choice .exit)) (now (step .exit)) (now (text .exit))) ⌝ }
+    ensures { λ r. ⌜ Routed (now (file .entry)) s a d b (rooms (now (weight .entry)) (now (count .entry)) (now (choice .entry)) (now (step .entry)) (now (text .entry))) (outcomeOf r) (rooms (now (weight .exit)) (now (count .exit)) (now (choice .exit)) (now (step .exit)) (now (text .exit))) ⌝ }
 {
-    let mut links = [0u32; 4096];
-    let mut funs = [0u32; 5120];
-    let j = read(file, &mut links, &mut funs);
+    let mut net = [0u32; ROOM];
+    let j = load(file, &mut net);
     if j.number != 0 {
         return refusal(j.number, j.line);
     }
-    answer(
-        &links,
-        j.links,
-        &funs,
-        j.funs,
-        j.n,
-        j.p,
-        weight,
-        count,
-        choice,
-        step,
-        text,
-        index(s),
-        index(a),
-        index(d),
-        index(b),
-    )
+    let start = Place {
+        node: index(s),
+        protocol: index(a),
+    };
+    let end = Place {
+        node: index(d),
+        protocol: index(b),
+    };
+    answer(&net, start, end, weight, count, choice, step, text)
 }

@@ -1,11 +1,13 @@
 // One enquiry of a network whose tables are filled: 8, 9, 10, 11 or 0.
 ghost use mathlib.Core.Path.{_≡_};
-ghost use Prim.Native.Nat.{_*_, _<_, _≤_};
+ghost use Prim.Native.Nat.{_+_, _*_, _<_};
 ghost use lib.ListN.{length, getD};
-ghost use Rattle.paper.specs.Outcome.{outcome, most-steps, Ends};
-ghost use Rattle.records.specs.Columns.{hopOf};
-ghost use Rattle.costs.specs.Cells.{pairAt};
-ghost use Rattle.enquiry.specs.Ready.{Ready, Fit, cleared};
+ghost use Rattle.paper.specs.Outcome.{outcomeOf, refusal, most-steps};
+ghost use Rattle.network.specs.Network.{places, numberOf, Within};
+ghost use Rattle.network.specs.Arranged.{Arranged};
+ghost use Rattle.enquiry.specs.Ready.{Ready, Fit, EndsIn, cleared};
+use network::size::number_of;
+use network::size::places;
 use paper::limits::NEVER_MARK;
 use paper::limits::OVER_MARK;
 use paper::outcome::Outcome;
@@ -14,7 +16,7 @@ use trace::trace;
 use unfold::unfold;
 
 pub fn refusal(number: u32, line: u32) -> Outcome
-    ensures { λ r. ⌜ outcome (r .number) (r .line) (r .weight) (r .steps) (r .length) ≡ outcome number line 0 0 0 ⌝ }
+    ensures { λ r. ⌜ outcomeOf r ≡ refusal number line ⌝ }
 {
     Outcome {
         number,
@@ -34,67 +36,32 @@ fn most(m: usize) -> usize
 }
 
 // Where the entry of the two places stands.
-fn pair(n: usize, p: usize, s: usize, a: usize, d: usize, b: usize) -> usize
-    requires { ⌜ (n * p ≤ 1024) × (s < n) × (a < p) × (d < n) × (b < p) ⌝ }
-    ensures { λ r. ⌜ (r ≡ pairAt n p s a d b) × (r < n * p * (n * p)) ⌝ }
+fn pair(net: &[u32], start: Place, end: Place) -> usize
+    requires { ⌜ Arranged (now net) × Within (now net) start × Within (now net) end ⌝ }
+    ensures { λ r. ⌜ (r ≡ numberOf (now (net .entry)) start * places (now (net .entry)) + numberOf (now (net .entry)) end) × (r < places (now (net .entry)) * places (now (net .entry))) ⌝ }
 {
-    let from = Place {
-        node: s,
-        protocol: a,
-    };
-    let to = Place {
-        node: d,
-        protocol: b,
-    };
-    from.number(n, p) * (n * p) + to.number(n, p)
+    number_of(net, start) * places(net) + number_of(net, end)
 }
 
 // The best route into the step room, and its trace into the text room where it fits: 0 or 11.
 fn hand_out(
-    links: &[u32],
-    c: usize,
-    funs: &[u32],
-    f: usize,
-    n: usize,
-    p: usize,
+    net: &[u32],
+    start: Place,
+    end: Place,
     weight: &[u32],
     count: &[u16],
     choice: &mut [u16],
     step: &mut [u16],
     text: &mut [u8],
-    s: usize,
-    a: usize,
-    d: usize,
-    b: usize,
     w: u32,
     k: usize,
 ) -> Outcome
-    requires { ⌜ Ready n p c (now links) f (now funs) (now weight) (now count) (now choice) ⌝ }
-    requires { ⌜ Fit n p s a d b (now weight) (now count) (now step) w k ⌝ }
-    ensures { λ r. ⌜ Ends (hopOf n p c (now (links .entry)) f (now (funs .entry))) n p s a d b (now (step .entry)) (now (text .entry)) (outcome (r .number) (r .line) (r .weight) (r .steps) (r .length)) (now (step .exit)) (now (text .exit)) ⌝ }
-    ensures { λ _. ⌜ now (choice .exit) ≡ cleared n p (now (choice .entry)) ⌝ }
+    requires { ⌜ Ready (now net) (now weight) (now count) (now choice) × Fit (now net) start end (now weight) (now count) (now step) w k ⌝ }
+    ensures { λ r. ⌜ EndsIn (now (net .entry)) start end (now (step .entry)) (now (text .entry)) (outcomeOf r) (now (step .exit)) (now (text .exit)) ⌝ }
+    ensures { λ _. ⌜ now (choice .exit) ≡ cleared (now (net .entry)) (now (choice .entry)) ⌝ }
 {
-    unfold(
-        links,
-        c,
-        funs,
-        f,
-        n,
-        p,
-        weight,
-        count,
-        choice,
-        step,
-        Place {
-            node: s,
-            protocol: a,
-        },
-        Place {
-            node: d,
-            protocol: b,
-        },
-    );
-    let t = trace(links, c, funs, f, n, p, s, a, d, b, w, step, k, text);
+    unfold(net, weight, count, choice, step, start, end);
+    let t = trace(net, start, w, step, k, text);
     if t.fits {
         return Outcome {
             number: 0,
@@ -129,28 +96,20 @@ fn wide(k: u16) -> usize
 
 // The enquiry's outcome, from the entries of its two places.
 pub fn travel(
-    links: &[u32],
-    c: usize,
-    funs: &[u32],
-    f: usize,
-    n: usize,
-    p: usize,
+    net: &[u32],
+    start: Place,
+    end: Place,
     weight: &[u32],
     count: &[u16],
     choice: &mut [u16],
     step: &mut [u16],
     text: &mut [u8],
-    s: usize,
-    a: usize,
-    d: usize,
-    b: usize,
 ) -> Outcome
-    requires { ⌜ Ready n p c (now links) f (now funs) (now weight) (now count) (now choice) ⌝ }
-    requires { ⌜ (s < n) × (a < p) × (d < n) × (b < p) ⌝ }
-    ensures { λ r. ⌜ Ends (hopOf n p c (now (links .entry)) f (now (funs .entry))) n p s a d b (now (step .entry)) (now (text .entry)) (outcome (r .number) (r .line) (r .weight) (r .steps) (r .length)) (now (step .exit)) (now (text .exit)) ⌝ }
-    ensures { λ _. ⌜ now (choice .exit) ≡ cleared n p (now (choice .entry)) ⌝ }
+    requires { ⌜ Ready (now net) (now weight) (now count) (now choice) × Within (now net) start × Within (now net) end ⌝ }
+    ensures { λ r. ⌜ EndsIn (now (net .entry)) start end (now (step .entry)) (now (text .entry)) (outcomeOf r) (now (step .exit)) (now (text .exit)) ⌝ }
+    ensures { λ _. ⌜ now (choice .exit) ≡ cleared (now (net .entry)) (now (choice .entry)) ⌝ }
 {
-    let at = pair(n, p, s, a, d, b);
+    let at = pair(net, start, end);
     let w = weight[at];
     if w == NEVER_MARK {
         return refusal(8, 0);
@@ -162,23 +121,5 @@ pub fn travel(
     if most(step.len()) < k {
         return refusal(10, 0);
     }
-    hand_out(
-        links,
-        c,
-        funs,
-        f,
-        n,
-        p,
-        weight,
-        count,
-        choice,
-        step,
-        text,
-        s,
-        a,
-        d,
-        b,
-        w,
-        k,
-    )
+    hand_out(net, start, end, weight, count, choice, step, text, w, k)
 }

@@ -3,7 +3,7 @@ ghost use mathlib.Core.Path.{_≡_};
 ghost use Rattle.paper.specs.File.{judge};
 ghost use Rattle.paper.specs.Outcome.{outcome, rooms, Routed, told, normally};
 use enquiry::route;
-use normal::file::normal_file;
+use file_normal::file::normal_file;
 use paper::outcome::Outcome;
 
 #[no_mangle]

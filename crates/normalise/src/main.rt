@@ -1,8 +1,8 @@
 // Reads net.tsv and writes its normal file, or the badnet line.
+use file_normal::file::normal_file;
 use libc::STDOUT_FILENO;
-use normal::file::normal_file;
-use programs::load;
-use programs::write_reply;
+use program_io::load_file;
+use program_io::write_reply;
 
 // The text room has the length of the longest network file, which no normal file passes.
 fn normalise(file: &[u8], text: &mut [u8]) {
@@ -18,6 +18,6 @@ fn normalise(file: &[u8], text: &mut [u8]) {
 fn main() {
     let mut file = [0u8; 65537];
     let mut text = [0u8; 65536];
-    let n = load(&mut file);
+    let n = load_file(&mut file);
     normalise(&file[0..n], &mut text);
 }

@@ -13,11 +13,20 @@ use Rattle.paper.specs.Route.{Best, flat}
 use Rattle.paper.specs.File.{Judged, refused, accepted, judge}
 use Rattle.paper.specs.Normal.{normal}
 use Rattle.paper.specs.Trace.{trace}
+use Rattle.paper.specs.declared.outcome.Outcome.{Outcome as Returned}
 use Rattle.paper.specs.Rooms.{laid, NoRoute, AllHeavy, LeastWeight, MoreSteps, Tabled}
 
 -- outcome NUMBER LINE WEIGHT STEPS LENGTH
 pub data Outcome : Type 0 where
   outcome : ℕ → ℕ → ℕ → ℕ → ℕ → Outcome
+
+-- a refusal has number and line
+abbrev pub refusal : ℕ → ℕ → Outcome
+refusal d i = outcome d i 0 0 0
+
+-- the outcome that a call returns
+abbrev pub outcomeOf : Returned → Outcome
+outcomeOf r = outcome (r .number) (r .line) (r .weight) (r .steps) (r .length)
 
 -- rooms WEIGHT COUNT CHOICE STEP TEXT
 pub data Rooms : Type 0 where
@@ -52,9 +61,9 @@ module _ (hop : Key → ℕ → Option (ℕ × ℕ)) (n p S a D b : ℕ) where
 
   -- of the step room Q and the text room T, the outcome and what it leaves in them
   pub data Ends (Q T : List ℕ) : Outcome → List ℕ → List ℕ → Type 0 where
-    eight : NoRoute hop S a D b → Ends Q T (outcome 8 0 0 0 0) Q T
-    nine : AllHeavy hop S a D b → Ends Q T (outcome 9 0 0 0 0) Q T
-    ten : {w : ℕ} → LeastWeight hop S a D b w → MoreSteps hop S a D b w (most-steps (length Q)) → Ends Q T (outcome 10 0 0 0 0) Q T
+    eight : NoRoute hop S a D b → Ends Q T (refusal 8 0) Q T
+    nine : AllHeavy hop S a D b → Ends Q T (refusal 9 0) Q T
+    ten : {w : ℕ} → LeastWeight hop S a D b w → MoreSteps hop S a D b w (most-steps (length Q)) → Ends Q T (refusal 10 0) Q T
     eleven : {ks : List Key} {w : ℕ} → Found Q ks w → length T < length (trace hop S a ks w)
         → Ends Q T (outcome 11 0 w (length ks) 0) (laid Q 0 (flat ks)) T
     zero : {ks : List Key} {w : ℕ} → Found Q ks w → length (trace hop S a ks w) ≤ length T
@@ -62,8 +71,8 @@ module _ (hop : Key → ℕ → Option (ℕ × ℕ)) (n p S a D b : ℕ) where
 
   -- of all five rooms
   pub data Answers : Rooms → Outcome → Rooms → Type 0 where
-    six : {r : Rooms} → known n p S a D b ≡ false → Answers r (outcome 6 0 0 0 0) r
-    seven : {r : Rooms} → known n p S a D b ≡ true → roomy (n * p) r ≡ false → Answers r (outcome 7 0 0 0 0) r
+    six : {r : Rooms} → known n p S a D b ≡ false → Answers r (refusal 6 0) r
+    seven : {r : Rooms} → known n p S a D b ≡ true → roomy (n * p) r ≡ false → Answers r (refusal 7 0) r
     on : {W C X Q T W′ C′ X′ Q′ T′ : List ℕ} {o : Outcome} → Searched W C X Q T W′ C′ X′ → Ends Q T o Q′ T′
         → Answers (rooms W C X Q T) o (rooms W′ C′ X′ Q′ T′)
 
@@ -71,7 +80,7 @@ module _ (hop : Key → ℕ → Option (ℕ × ℕ)) (n p S a D b : ℕ) where
 
 module _ (file : List ℕ) (S a D b : ℕ) where
   pub data Routed : Rooms → Outcome → Rooms → Type 0 where
-    bad-file : {d i : ℕ} {r : Rooms} → judge file ≡ refused d i → Routed r (outcome d i 0 0 0) r
+    bad-file : {d i : ℕ} {r : Rooms} → judge file ≡ refused d i → Routed r (refusal d i) r
     good-file : {n p : ℕ} {ls : List Link} {fs : List Fun} {o : Outcome} {r s : Rooms} → judge file ≡ accepted (net n p ls fs)
         → Answers (hop (net n p ls fs)) n p S a D b r o s → Routed r o s
 
@@ -82,7 +91,7 @@ pub data Told : Type 0 where
   told : Outcome → List ℕ → Told
 
 unfoldable pub normally : Judged → List ℕ → Told
-normally (refused d i) T = told (outcome d i 0 0 0) T
+normally (refused d i) T = told (refusal d i) T
 normally (accepted m) T =
     cond (leb (length (normal m)) (length T)) (told (outcome 0 0 0 0 (length (normal m))) (laid T 0 (normal m)))
-    (told (outcome 11 0 0 0 0) T)
+    (told (refusal 11 0) T)

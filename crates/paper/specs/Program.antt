@@ -9,7 +9,7 @@ use lib.ListN.{length}
 use Rattle.paper.specs.Text.{Line, ended, cut, fields, number, decimal, written, same, bytes}
 use Rattle.paper.specs.Net.{Key}
 use Rattle.paper.specs.File.{field}
-use Rattle.paper.specs.Outcome.{Outcome, outcome, known, Ends}
+use Rattle.paper.specs.Outcome.{Outcome, refusal, known, Ends}
 
 -- what an input line asks: an enquiry, or nothing (refused with 2)
 pub data Asked : Type 0 where
@@ -36,8 +36,8 @@ asked (cut l) = misshapen
 
 -- an enquiry of an accepted network, which is tabled where the program lends room for its places: its outcome, and what is left in the step room Q and the text room T
 pub data Replies (hop : Key → ℕ → Option (ℕ × ℕ)) (n p S a D b : ℕ) (tabled : Bool) (Q T : List ℕ) : Outcome → List ℕ → List ℕ → Type 0 where
-  six : known n p S a D b ≡ false → Replies hop n p S a D b tabled Q T (outcome 6 0 0 0 0) Q T
-  seven : known n p S a D b ≡ true → tabled ≡ false → Replies hop n p S a D b tabled Q T (outcome 7 0 0 0 0) Q T
+  six : known n p S a D b ≡ false → Replies hop n p S a D b tabled Q T (refusal 6 0) Q T
+  seven : known n p S a D b ≡ true → tabled ≡ false → Replies hop n p S a D b tabled Q T (refusal 7 0) Q T
   on : {o : Outcome} {Q′ T′ : List ℕ} → known n p S a D b ≡ true → tabled ≡ true → Ends hop n p S a D b Q T o Q′ T′ → Replies hop n p S a D b tabled Q T o Q′ T′
 
 -- a refused network, an input that is too long, a refused enquiry: number and line

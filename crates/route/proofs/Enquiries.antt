@@ -12,6 +12,9 @@ use Rattle.paper.specs.Trace.{trace}
 use Rattle.paper.specs.Program.{Replies, six, seven, on}
 use Rattle.paper.specs.Outcome.{Outcome, outcome, known, Ends, eight, nine, ten, eleven, zero as found}
 use Rattle.laws.proofs.Laid.{length-laid}
+use Rattle.network.specs.Network.{places}
+use Rattle.network.specs.Arranged.{Arranged}
+use Rattle.tables.specs.Lent.{Lent}
 use Rattle.enquiry.specs.Ready.{Ready, cleared}
 
 told : Outcome → ℕ
@@ -44,12 +47,15 @@ module _ {hop : Key → ℕ → Option (ℕ × ℕ)} {n p S a D b : ℕ} {tabled
       go (seven h t) = omega arith
       go (on h t e) = ends e
 
-pub still-ready : (n p c : ℕ) (ls : List ℕ) (d : ℕ) (fs W C X X′ : List ℕ) → X′ ≡ cleared n p X → Ready n p c ls d fs W C X → Ready n p c ls d fs W C X′
-still-ready n p c ls d fs W C X X′ e r = let f : X′ ≡ X = e ∙ sym (r .clear) in rw f r
+pub still-ready : (g W C X X′ : List ℕ) → X′ ≡ cleared g X → Ready g W C X → Ready g W C X′
+still-ready g W C X X′ e r = let f : X′ ≡ X = e ∙ sym (r .clear) in rw f r
 
 -- the tables of 64 places fit the program's rooms
-pub small : (N : ℕ) → N ≤ 64 → (N * N ≤ 4096) × (N * N ≤ 4096) × (8 * (N * N) ≤ 32768)
-small N h = let q = mul-le-mul h h in (omega (arith, q), omega (arith, q), omega (arith, q))
+pub small : (g : List ℕ) (N : ℕ) (W C X : List ℕ) → Arranged g → N ≡ places g → N ≤ 64 → length W ≡ 4096 → length C ≡ 4096 → length X ≡ 32768 → Lent g W C X
+small g N W C X o e h w c x =
+    let m : places g ≤ 64 = rw e at h in
+    let q = mul-le-mul m m in
+    record { arranged = o; weights = omega (arith, q); counts = omega (arith, q); choices = omega (arith, q) }
 
 -- what was read is no longer than the limit
 pub short-input : (k : ℕ) (l : List ℕ) → k ≤ 65536 → length (take (k - 0) l) ≤ 65536

@@ -1,7 +1,6 @@
 -- What the proofs of the code cite: one law for each function, over plain variables. Assumes nothing.
 use Prim.Native.Nat.{ℕ, zero, suc, _+_}
-use mathlib.Core.Path.{_≡_, refl, sym, ap, _∙_}
-use mathlib.Core.Bool.{Bool, true, false, not}
+use mathlib.Core.Path.{_≡_, refl, ap, _∙_}
 use mathlib.Core.List.{List, [], _∷_, _++_}
 use native.Mathlib.Omega.{arith}
 use native.Mathlib.Numerals.{add-one}
@@ -17,7 +16,3 @@ pub zeroed : (i : ℕ) (X₀ X X′ : List ℕ) → X ≡ laid X₀ 0 (replicate
 zeroed i X₀ X X′ e g =
     let z : 0 + i ≡ i = omega arith in
     rw (add-one i, replicate-last i 0, laid-last X₀ 0 (replicate i 0) 0, length-replicate {A = ℕ} i 0, z) (g ∙ ap (λ (l : List ℕ). set l i 0) e)
-
-pub not-false : (b : Bool) → not b ≡ false → b ≡ true
-not-false true e = refl
-not-false false e = sym e

@@ -1,11 +1,11 @@
 // Sweeps until nothing falls.
 ghost use mathlib.Core.Path.{_≡_};
 ghost use mathlib.Core.Bool.{cond};
-ghost use Rattle.records.specs.Columns.{hopOf};
-ghost use Rattle.sweeps.specs.Filled.{Filled};
-ghost use Rattle.ways.specs.Asked.{Sweeping};
-use lowering::begin::prepare;
-use visits::sweep_all;
+ghost use Rattle.tables_sweeps.specs.Filled.{Filled};
+ghost use Rattle.tables_ways.specs.Asked.{Sweeping};
+use network::size::places;
+use tables_lowering::begin::prepare;
+use tables_visits::sweep_all;
 
 // The stamp from which a row counts as new in the next sweep: none does where the last one changed nothing.
 fn since_when(fell: bool, stamp: u32) -> u32
@@ -20,40 +20,17 @@ fn later(stamp: u32) -> u32 {
 }
 
 // A sweep passes over what is not new; the last one passes over nothing and finds nothing to lower.
-pub fn settle(
-    links: &[u32],
-    c: usize,
-    funs: &[u32],
-    d: usize,
-    n: usize,
-    p: usize,
-    weight: &mut [u32],
-    count: &mut [u16],
-    stamps: &mut [u32],
-)
-    requires { ⌜ Sweeping n p c (now links) d (now funs) (now weight) (now count) (now stamps) ⌝ }
-    ensures { λ _. ⌜ Filled (hopOf n p c (now (links .entry)) d (now (funs .entry))) n p (now (weight .entry)) (now (count .entry)) (now (weight .exit)) (now (count .exit)) ⌝ }
+pub fn settle(net: &[u32], weight: &mut [u32], count: &mut [u16], stamps: &mut [u32])
+    requires { ⌜ Sweeping (now net) (now weight) (now count) (now stamps) ⌝ }
+    ensures { λ _. ⌜ Filled (now (net .entry)) (now (weight .entry)) (now (count .entry)) (now (weight .exit)) (now (count .exit)) ⌝ }
 {
-    prepare(weight, count, n * p);
+    prepare(weight, count, places(net));
     let mut back = false;
     let mut stamp: u32 = 1;
     let mut since: u32 = 0;
     let mut done = false;
     while !done {
-        let fell = sweep_all(
-            links,
-            c,
-            funs,
-            d,
-            n,
-            p,
-            weight,
-            count,
-            stamps,
-            stamp,
-            since,
-            back,
-        );
+        let fell = sweep_all(net, weight, count, stamps, stamp, since, back);
         done = !fell & (since == 0);
         since = since_when(fell, stamp);
         stamp = later(stamp);

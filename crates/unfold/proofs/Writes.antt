@@ -2,18 +2,17 @@
 use Prim.Native.Nat.{ℕ, zero, suc, _+_, _-_, _*_, _<_, _≤_}
 use mathlib.Core.Path.{_≡_, refl, sym, ap, _∙_}
 use mathlib.Core.List.{List, [], _∷_, _++_}
-use mathlib.Core.Option.{Option}
 use native.Mathlib.Omega.{arith}
 use lib.ListN.{length, getD, set}
 use Rattle.paper.specs.Net.{Kind, conv, wrap, unwrap, code, Key, key}
 use Rattle.paper.specs.Rooms.{laid}
 use Rattle.paper.specs.Route.{flat}
-use Rattle.laws.specs.Value.{Value}
-use Rattle.laws.specs.Unfold.{Frame, Picked}
 use Rattle.laws.proofs.Laid.{laid-seq}
 use Rattle.laws.proofs.Order.{code-inj}
 use Rattle.laws.proofs.Parts.{flat-append, flat-length}
-use Rattle.picks.specs.Contract.{Taken}
+use Rattle.unfold_tries.specs.declared.trial.Spot.{Spot}
+use Rattle.unfold_tries.specs.declared.trial.Step.{Step}
+use Rattle.unfold_picks.specs.Contract.{PickedIn, Taken}
 
 -- four stores are a step key
 pub key-laid : (d : List ℕ) (i : ℕ) (k : List ℕ) → length k ≡ 4 → set (set (set (set d i (getD k 0 0)) (i + 1) (getD k 1 0)) (i + 2) (getD k 2 0)) (i + 3) (getD k 3 0) ≡ laid d i k
@@ -36,29 +35,29 @@ wrote-then Q {Q′} {Q″} ks js total n m h e p q =
     rw (flat-append ks js) (laid-seq Q Q′ Q″ (flat ks) (flat js) (4 * (total - n)) (4 * (total - m)) p (omega (arith, flat-length ks)) q)
 
 -- a step that was picked, of a kind that is known
-pub record TakenAs (hop : Key → ℕ → Option (ℕ × ℕ)) (n p : ℕ) (t : ℕ → ℕ → ℕ → ℕ → Value) (f : Frame) (fs : List Frame) (v x w m : ℕ) (s : List ℕ) (r z u q : ℕ) (c : Kind) : Type 0 where
+pub record TakenAs (g W C L : List ℕ) (k : ℕ) (at : Spot) (s : Step) (c : Kind) : Type 0 where
   pub l : ℕ
   pub a : ℕ
   pub e : ℕ
-  pub spelled : s ≡ flat (key l c a e ∷ [])
-  pub picked : Picked hop n p t f fs v x w m (key l c a e) r z u q
+  pub spelled : s .key ≡ flat (key l c a e ∷ [])
+  pub picked : PickedIn g W C L k at (key l c a e) (s .to)
 
-module _ {hop : Key → ℕ → Option (ℕ × ℕ)} {n p : ℕ} {t : ℕ → ℕ → ℕ → ℕ → Value} {f : Frame} {fs : List Frame} {v x w m : ℕ} {s : List ℕ} {r z u q : ℕ} (y : Taken hop n p t f fs v x w m s r z u q) where
-  of-kind : (k : Key) → s ≡ flat (k ∷ []) → Picked hop n p t f fs v x w m k r z u q → (c : Kind) → getD s 1 0 ≡ code c → TakenAs hop n p t f fs v x w m s r z u q c
+module _ {g W C L : List ℕ} {k : ℕ} {at : Spot} {s : Step} (y : Taken g W C L k at s) where
+  pub taken-as : (c : Kind) → getD (s .key) 1 0 ≡ code c → TakenAs g W C L k at s c
   unfolding flat
-  of-kind (key l c a e) i g c′ h = let same : c ≡ c′ = code-inj c c′ (ap (λ (k : List ℕ). getD k 1 0) (sym i) ∙ h) in rw (← same) (record { l = l; a = a; e = e; spelled = i; picked = g })
+  taken-as c h = go (y .key) (y .spelled) (y .picked)
+    where
+      go : (j : Key) → s .key ≡ flat (j ∷ []) → PickedIn g W C L k at j (s .to) → TakenAs g W C L k at s c
+      go (key l c′ a e) i p = let same : c′ ≡ c = code-inj c′ c (ap (λ (j : List ℕ). getD j 1 0) (sym i) ∙ h) in rw (← same) (record { l = l; a = a; e = e; spelled = i; picked = p })
 
-  pub taken-as : (c : Kind) → getD s 1 0 ≡ code c → TakenAs hop n p t f fs v x w m s r z u q c
-  taken-as c h = of-kind (y .key) (y .spelled) (y .picked) c h
-
-  kind-small : (k : Key) → s ≡ flat (k ∷ []) → getD s 1 0 < 3
+  kind-small : (j : Key) → s .key ≡ flat (j ∷ []) → getD (s .key) 1 0 < 3
   unfolding flat
-  kind-small (key l conv a e) i = omega (arith, ap (λ (k : List ℕ). getD k 1 0) i)
-  kind-small (key l wrap a e) i = omega (arith, ap (λ (k : List ℕ). getD k 1 0) i)
-  kind-small (key l unwrap a e) i = omega (arith, ap (λ (k : List ℕ). getD k 1 0) i)
+  kind-small (key l conv a e) i = omega (arith, ap (λ (j : List ℕ). getD j 1 0) i)
+  kind-small (key l wrap a e) i = omega (arith, ap (λ (j : List ℕ). getD j 1 0) i)
+  kind-small (key l unwrap a e) i = omega (arith, ap (λ (j : List ℕ). getD j 1 0) i)
 
-  pub taken-conv : (getD s 1 0 ≡ 1 → ⊥) → (getD s 1 0 ≡ 2 → ⊥) → TakenAs hop n p t f fs v x w m s r z u q conv
-  taken-conv h g = taken-as conv (small (getD s 1 0) h g (kind-small (y .key) (y .spelled)))
+  pub taken-conv : (getD (s .key) 1 0 ≡ 1 → ⊥) → (getD (s .key) 1 0 ≡ 2 → ⊥) → TakenAs g W C L k at s conv
+  taken-conv h i = taken-as conv (small (getD (s .key) 1 0) h i (kind-small (y .key) (y .spelled)))
     where
       small : (i : ℕ) → (i ≡ 1 → ⊥) → (i ≡ 2 → ⊥) → i < 3 → i ≡ 0
       small zero a e l = refl

@@ -1,65 +1,49 @@
 -- The contracts of `level` and `tunnel` over the rooms: L and Q, the choice and the step room, become L′ and Q′.
--- n nodes, p protocols, c links in ls, d functions in fs; the tables in W and C; an enquiry that ends at D, b, of `total` steps in all.
--- Assumes nothing: these are definitions.
-use Prim.Native.Nat.{ℕ, _-_, _*_, _<_, _≤_}
+-- g is the network, W and C are the tables, c is the course of the unfolding. Assumes nothing: these are definitions.
+use Prim.Native.Nat.{ℕ, zero, suc, _-_, _*_, _<_, _≤_}
 use mathlib.Core.Path.{_≡_}
 use mathlib.Core.List.{List}
-use mathlib.Core.Logic.{_↔_}
-use lib.Dec.{T}
 use lib.ListN.{length}
 use Rattle.paper.specs.Net.{Key}
 use Rattle.paper.specs.Rooms.{laid}
 use Rattle.paper.specs.Route.{flat}
-use Rattle.laws.specs.Unfold.{Moved, Levelled, Tunnelled}
-use Rattle.records.specs.Columns.{hopOf}
-use Rattle.frames.specs.Frames.{wordsFor, held, below, Kept}
-use Rattle.costs.specs.Cells.{table}
-use Rattle.picks.specs.Contract.{Stands}
+use Rattle.paper.specs.declared.place.Place.{Place}
+use Rattle.laws.specs.Unfold.{Frame, Moved, Levelled}
+use Rattle.network.specs.Network.{nodes, protocols, places, hopIn}
+use Rattle.unfold_tries.specs.declared.trial.Spot.{Spot}
+use Rattle.unfold_picks.specs.Contract.{tableIn, levelIn, beneathIn, KeptIn, Stands}
+use Rattle.unfold.specs.declared.course.Course.{Course}
 
--- rooms of lists, as long as they were
-pub record Lent (E A O F E′ A′ O′ F′ : List ℕ) : Type 0 where
-  pub exits : length E′ ≡ length E
-  pub costs : length A′ ≡ length A
-  pub outs : length O′ ≡ length O
-  pub fees : length F′ ≡ length F
+-- where level k leaves the unfolding: the bottom at the route's end with nothing left, another with what it hid on top
+unfoldable pub Left : ℕ → Place → Frame → Spot → Type 0
+Left zero end f r = (r .node ≡ end .node) × (r .protocol ≡ end .protocol) × (r .weight ≡ 0) × (r .left ≡ 0)
+Left (suc k) end f r = r .protocol ≡ f .hidden
 
-module _ (n p c : ℕ) (ls : List ℕ) (d : ℕ) (fs W C : List ℕ) (D b total : ℕ) where
-  -- where both are called: level k is the inmost; at v with x on top w, m are left
-  pub record Asks (L Q : List ℕ) (k v x w m : ℕ) : Type 0 where
-    pub stands : Stands n p c ls d fs W C D b L k v x w m
-    pub fits : m ≤ total
-    pub choices : 8 * (n * p * (n * p)) ≤ length L
-    pub steps : 4 * total ≤ length Q
+module _ (g W C : List ℕ) (c : Course) where
+  -- where both are called
+  pub record Asks (L Q : List ℕ) (at : Spot) : Type 0 where
+    pub stands : Stands g W C (c .end) L (c .level) at
+    pub fits : at .left ≤ c .total
+    pub choices : 8 * (places g * places g) ≤ length L
+    pub steps : 4 * c .total ≤ length Q
 
-  -- the level is closed, or at the bottom the whole rest is written: the call returns node r and the rest u, j
-  pub record LevelEnsures (L L′ Q Q′ : List ℕ) (k v x w m r u j : ℕ) : Type 0 where
+  -- from `at` to `r` in the level: the steps between are written, and the records that are open are as they were
+  pub record Went (L L′ Q Q′ : List ℕ) (at r : Spot) : Type 0 where
     pub ks : List Key
-    pub wrote : Q′ ≡ laid Q (4 * (total - m)) (flat ks)
-    pub kept : Kept p (wordsFor (n * p)) k L L′
-    pub does : Levelled (hopOf n p c ls d fs) n p (table n p W C) D b (held p (wordsFor (n * p)) L k) (below p (wordsFor (n * p)) L k) v x w m ks r u j
+    pub wrote : Q′ ≡ laid Q (4 * (c .total - at .left)) (flat ks)
+    pub kept : KeptIn g (c .level) L L′
+    pub moved : Moved (hopIn g) (nodes g) (protocols g) (tableIn g W C) (c .end .node) (c .end .protocol) (levelIn g L (c .level)) (beneathIn g L (c .level)) (at .node) (at .protocol) (at .weight) (at .left) ks (levelIn g L (c .level)) (beneathIn g L (c .level)) (r .node) (r .protocol) (r .weight) (r .left)
 
-  -- a wrap, an inner level and its unwrap are written: the call returns node r and the rest u, j
-  pub record TunnelEnsures (L L′ Q Q′ : List ℕ) (k v x w m r u j : ℕ) : Type 0 where
+  -- a wrap, an inner level and its unwrap are written
+  pub record TunnelEnsures (L L′ Q Q′ : List ℕ) (at r : Spot) : Type 0 where
+    pub went : Went L L′ Q Q′ at r
+    pub less : r .left < at .left
+    pub leaves : r .protocol ≡ at .protocol
+
+  -- the level is closed, or at the bottom the whole rest is written
+  pub record LevelEnsures (L L′ Q Q′ : List ℕ) (at r : Spot) : Type 0 where
     pub ks : List Key
-    pub wrote : Q′ ≡ laid Q (4 * (total - m)) (flat ks)
-    pub kept : Kept p (wordsFor (n * p)) k L L′
-    pub less : j < m
-    pub does : Tunnelled (hopOf n p c ls d fs) n p (table n p W C) D b (held p (wordsFor (n * p)) L k) (below p (wordsFor (n * p)) L k) v x w m ks r u j
-
-  -- the invariant of the loop in `level`, called at v, x, w, m and now at r, z, u, j
-  pub record Inside (L L′ Q Q′ : List ℕ) (k v x w m r z u j : ℕ) : Type 0 where
-    pub ks : List Key
-    pub fits : m ≤ total
-    pub wrote : Q′ ≡ laid Q (4 * (total - m)) (flat ks)
-    pub kept : Kept p (wordsFor (n * p)) k L L′
-    pub choices-length : length L′ ≡ length L
-    pub steps-length : length Q′ ≡ length Q
-    pub moved : Moved (hopOf n p c ls d fs) n p (table n p W C) D b (held p (wordsFor (n * p)) L k) (below p (wordsFor (n * p)) L k) v x w m ks (held p (wordsFor (n * p)) L k) (below p (wordsFor (n * p)) L k) r z u j
-
-  -- record 0 is that of the enquiry S, a, of weight w and `total` steps: its one exit is D, b
-  pub record Bottom (L : List ℕ) (S a w : ℕ) : Type 0 where
-    pub node : held p (wordsFor (n * p)) L 0 .node ≡ S
-    pub protocol : held p (wordsFor (n * p)) L 0 .protocol ≡ a
-    pub weighs : held p (wordsFor (n * p)) L 0 .weighs ≡ w
-    pub counts : held p (wordsFor (n * p)) L 0 .counts ≡ total
-    pub exits : (i j : ℕ) → i < n → j < p → T (held p (wordsFor (n * p)) L 0 .exits i j) ↔ ((i ≡ D) × (j ≡ b))
+    pub wrote : Q′ ≡ laid Q (4 * (c .total - at .left)) (flat ks)
+    pub kept : KeptIn g (c .level) L L′
+    pub does : Levelled (hopIn g) (nodes g) (protocols g) (tableIn g W C) (c .end .node) (c .end .protocol) (levelIn g L (c .level)) (beneathIn g L (c .level)) (at .node) (at .protocol) (at .weight) (at .left) ks (r .node) (r .weight) (r .left)
+    pub leaves : Left (c .level) (c .end) (levelIn g L (c .level)) r

@@ -3,17 +3,14 @@ ghost use mathlib.Core.Path.{_≡_};
 ghost use Prim.Native.Nat.{_+_, _*_, _≤_};
 ghost use lib.ListN.{length, getD};
 ghost use Rattle.paper.specs.Rooms.{laid};
-ghost use Rattle.records.specs.Columns.{hopOf};
-ghost use Rattle.frames.specs.Frames.{wordsFor, held, below};
-ghost use Rattle.costs.specs.Cells.{table};
-ghost use Rattle.exits.specs.Lists.{Ample};
-ghost use Rattle.picks.specs.Contract.{Taken};
+ghost use Rattle.unfold_exits.specs.Lists.{Ample};
+ghost use Rattle.unfold_picks.specs.Contract.{Taken};
 ghost use Rattle.unfold.specs.Contract.{Asks, LevelEnsures, TunnelEnsures};
-use paper::place::Place;
-use picks::opens::open;
-use picks::pick::pick;
-use tries::trial::Spot;
-use tries::trial::Step;
+use crate::course::Course;
+use unfold_picks::opens::open;
+use unfold_picks::pick::pick;
+use unfold_tries::trial::Spot;
+use unfold_tries::trial::Step;
 
 // Writes a step key as step number `done` of the step room.
 fn put(steps: &mut [u16], done: usize, key: [u16; 4])
@@ -32,76 +29,52 @@ fn index(x: u16) -> usize
     x as usize
 }
 
-// Unfolds level k from `at` on: its steps and tunnels, and the unwrap that closes it; at the bottom, to the route's end.
+// Unfolds the level that is open, from `at` on: its steps and tunnels, and the unwrap that closes it; at the bottom, to the route's end.
 pub fn level(
-    links: &[u32],
-    c: usize,
-    funs: &[u32],
-    d: usize,
-    n: usize,
-    p: usize,
+    net: &[u32],
     weight: &[u32],
     count: &[u16],
     choice: &mut [u16],
     steps: &mut [u16],
-    end: Place,
-    total: u16,
-    k: usize,
+    course: Course,
     at: Spot,
-    exits: &mut [u16],
-    costs: &mut [u64],
-    outs: &mut [u16],
-    fees: &mut [u64],
+    exits: &mut [u64],
+    outs: &mut [u64],
 ) -> Spot
-    requires { ⌜ Asks n p c (now links) d (now funs) (now weight) (now count) (end .node) (end .protocol) total (now choice) (now steps) k (at .node) (at .protocol) (at .weight) (at .left) × Ample (now exits) (now costs) × Ample (now outs) (now fees) ⌝ }
-    ensures { λ r. ⌜ LevelEnsures n p c (now (links .entry)) d (now (funs .entry)) (now (weight .entry)) (now (count .entry)) (end .node) (end .protocol) total (now (choice .entry)) (now (choice .exit)) (now (steps .entry)) (now (steps .exit)) k (at .node) (at .protocol) (at .weight) (at .left) (r .node) (r .weight) (r .left) ⌝ }
+    requires { ⌜ Asks (now net) (now weight) (now count) course (now choice) (now steps) at × Ample (now exits) × Ample (now outs) ⌝ }
+    ensures { λ r. ⌜ LevelEnsures (now (net .entry)) (now (weight .entry)) (now (count .entry)) course (now (choice .entry)) (now (choice .exit)) (now (steps .entry)) (now (steps .exit)) at r ⌝ }
 {
+    let end = course.end;
     let mut here = at;
     while 0 < here.left {
         let s = pick(
-            links,
-            c,
-            funs,
-            d,
-            n,
-            p,
+            net,
             weight,
             count,
             choice,
             end,
-            k,
+            course.level,
             here,
             exits,
-            costs,
             outs,
-            fees,
         );
         let key = s.key;
         let kind = key[1];
         if kind == 1 {
             here = tunnel(
-                links,
-                c,
-                funs,
-                d,
-                n,
-                p,
+                net,
                 weight,
                 count,
                 choice,
                 steps,
-                end,
-                total,
-                k,
+                course,
                 here,
                 s,
                 exits,
-                costs,
                 outs,
-                fees,
             );
         } else {
-            put(steps, index(total - here.left), key);
+            put(steps, index(course.total - here.left), key);
             if kind == 2 {
                 return s.to;
             }
@@ -111,77 +84,43 @@ pub fn level(
     here
 }
 
-// Unfolds the tunnel that the wrap s opens from `at` in level k: the wrap, the inner level and its unwrap.
+// Unfolds the tunnel that the wrap s opens from `at` in the level that is open: the wrap, the inner level and its unwrap.
 pub fn tunnel(
-    links: &[u32],
-    c: usize,
-    funs: &[u32],
-    d: usize,
-    n: usize,
-    p: usize,
+    net: &[u32],
     weight: &[u32],
     count: &[u16],
     choice: &mut [u16],
     steps: &mut [u16],
-    end: Place,
-    total: u16,
-    k: usize,
+    course: Course,
     at: Spot,
     s: Step,
-    exits: &mut [u16],
-    costs: &mut [u64],
-    outs: &mut [u16],
-    fees: &mut [u64],
+    exits: &mut [u64],
+    outs: &mut [u64],
 ) -> Spot
-    requires { ⌜ Asks n p c (now links) d (now funs) (now weight) (now count) (end .node) (end .protocol) total (now choice) (now steps) k (at .node) (at .protocol) (at .weight) (at .left) × (getD (s .key) 1 0 ≡ 1) × Taken (hopOf n p c (now links) d (now funs)) n p (table n p (now weight) (now count)) (held p (wordsFor (n * p)) (now choice) k) (below p (wordsFor (n * p)) (now choice) k) (at .node) (at .protocol) (at .weight) (at .left) (s .key) (s .to .node) (s .to .protocol) (s .to .weight) (s .to .left) × Ample (now exits) (now costs) × Ample (now outs) (now fees) ⌝ }
-    ensures { λ r. ⌜ (r .protocol ≡ at .protocol) × TunnelEnsures n p c (now (links .entry)) d (now (funs .entry)) (now (weight .entry)) (now (count .entry)) (end .node) (end .protocol) total (now (choice .entry)) (now (choice .exit)) (now (steps .entry)) (now (steps .exit)) k (at .node) (at .protocol) (at .weight) (at .left) (r .node) (r .weight) (r .left) ⌝ }
+    requires { ⌜ Asks (now net) (now weight) (now count) course (now choice) (now steps) at × Ample (now exits) × Ample (now outs) ⌝ }
+    requires { ⌜ (getD (s .key) 1 0 ≡ 1) × Taken (now net) (now weight) (now count) (now choice) (course .level) at s ⌝ }
+    ensures { λ r. ⌜ TunnelEnsures (now (net .entry)) (now (weight .entry)) (now (count .entry)) course (now (choice .entry)) (now (choice .exit)) (now (steps .entry)) (now (steps .exit)) at r ⌝ }
 {
+    let end = course.end;
     let key = s.key;
     let to = s.to;
-    put(steps, index(total - at.left), key);
+    put(steps, index(course.total - at.left), key);
     open(
-        links,
-        c,
-        funs,
-        d,
-        n,
-        p,
+        net,
         weight,
         count,
         choice,
         end,
-        k,
+        course.level,
         at,
         to,
         exits,
-        costs,
         outs,
-        fees,
     );
-    let back = level(
-        links,
-        c,
-        funs,
-        d,
-        n,
-        p,
-        weight,
-        count,
-        choice,
-        steps,
+    let inward = Course {
         end,
-        total,
-        k + 1,
-        to,
-        exits,
-        costs,
-        outs,
-        fees,
-    );
-    Spot {
-        node: back.node,
-        protocol: at.protocol,
-        weight: back.weight,
-        left: back.left,
-    }
+        total: course.total,
+        level: course.level + 1,
+    };
+    level(net, weight, count, choice, steps, inward, to, exits, outs)
 }

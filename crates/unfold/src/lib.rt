@@ -1,20 +1,17 @@
 // The one best route, unfolded into the step room from exact tables.
 ghost use Rattle.unfold.specs.Unfolded.{Unfolds, Unfolded};
 use crate::bottom::write_route;
-use frames::clear;
+use network::size::places;
 use paper::place::Place;
+use unfold_frames::clear;
 
 mod bottom;
+mod course;
 mod levels;
 
 // Writes the steps of the best route of the enquiry from `start` to `end`; the first 8 N² entries of the choice room serve it, and hold zeros afterwards.
 pub fn unfold(
-    links: &[u32],
-    c: usize,
-    funs: &[u32],
-    d: usize,
-    n: usize,
-    p: usize,
+    net: &[u32],
     weight: &[u32],
     count: &[u16],
     choice: &mut [u16],
@@ -22,21 +19,15 @@ pub fn unfold(
     start: Place,
     end: Place,
 )
-    requires { ⌜ Unfolds n p c (now links) d (now funs) (now weight) (now count) (start .node) (start .protocol) (end .node) (end .protocol) (now choice) (now steps) ⌝ }
-    ensures { λ _. ⌜ Unfolded n p c (now (links .entry)) d (now (funs .entry)) (now (weight .entry)) (now (count .entry)) (start .node) (start .protocol) (end .node) (end .protocol) (now (choice .entry)) (now (choice .exit)) (now (steps .entry)) (now (steps .exit)) ⌝ }
+    requires { ⌜ Unfolds (now net) (now weight) (now count) start end (now choice) (now steps) ⌝ }
+    ensures { λ _. ⌜ Unfolded (now (net .entry)) (now (weight .entry)) (now (count .entry)) start end (now (choice .entry)) (now (choice .exit)) (now (steps .entry)) (now (steps .exit)) ⌝ }
 {
-    let room = 8 * (n * p * (n * p));
-    let mut exits = [0u16; 1024];
-    let mut costs = [0u64; 1024];
-    let mut outs = [0u16; 1024];
-    let mut fees = [0u64; 1024];
+    let size = places(net);
+    let room = 8 * (size * size);
+    let mut exits = [0u64; 2048];
+    let mut outs = [0u64; 2048];
     write_route(
-        links,
-        c,
-        funs,
-        d,
-        n,
-        p,
+        net,
         weight,
         count,
         &mut choice[0..room],
@@ -44,9 +35,7 @@ pub fn unfold(
         start,
         end,
         &mut exits,
-        &mut costs,
         &mut outs,
-        &mut fees,
     );
     clear(choice, 0, room);
 }

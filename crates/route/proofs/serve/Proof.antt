@@ -8,11 +8,11 @@ use Rattle.route.proofs.serve.Statement.{statement}
 use Rattle.route.proofs.serve.Tie as tie
 
 abbrev Inv-loop : tie.InvT-loop
-Inv-loop links c funs f n p tabled weight count choice₀ input step₀ text₀ at₀ line₀ t18 choice step text at line =
-    (tabled ≡ true → Ready n p c links f funs weight count choice) × (at ≤ length input) × (line ≤ at) × (length input ≤ 65536) × (length choice ≡ length choice₀) × (length step ≡ 16384) × (length text ≡ 65536)
+Inv-loop net tabled weight count choice₀ input step₀ text₀ at₀ line₀ t18 choice step text at line =
+    (tabled ≡ true → Ready net weight count choice) × (at ≤ length input) × (line ≤ at) × (length input ≤ 65536) × (length choice ≡ length choice₀) × (length step ≡ 16384) × (length text ≡ 65536)
 
 abbrev μ-loop : tie.MeasureT-loop
-μ-loop links c funs f n p tabled weight count choice₀ input step₀ text₀ at₀ line₀ t18 choice step text at line = length input - at
+μ-loop net tabled weight count choice₀ input step₀ text₀ at₀ line₀ t18 choice step text at line = length input - at
 
 loop-holds : tie.Need-loop-holds Inv-loop μ-loop
 loop-holds c = search needs

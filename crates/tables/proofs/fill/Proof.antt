@@ -1,4 +1,4 @@
-use Rattle.sweeps.proofs.Tabled.{tabled}
+use Rattle.tables_sweeps.proofs.Tabled.{tabled}
 use borrow.Author.Needs.{needs}
 use Rattle.tables.proofs.fill.Statement.{statement}
 use Rattle.tables.proofs.fill.Tie as tie
@@ -9,11 +9,11 @@ slice-aggregate-settle c = search needs
 settle-requires : tie.Need-settle-requires
 settle-requires c κs = search needs
 
-mul-clear-choice : tie.Need-mul-clear-choice
-mul-clear-choice c = search needs
+places-requires : tie.Need-places-requires
+places-requires c κs = search needs
 
 clear-choice-requires : tie.Need-clear-choice-requires
-clear-choice-requires c κs = search needs
+clear-choice-requires c κs = (search needs, rw (c .places .ensures .0) (c .before .before .before .before .before .before .before .before .before .before .before .before .before .before .before .pre .choices))
 
 same-length : tie.Need-same-length
 same-length c = search needs
@@ -25,7 +25,9 @@ same-length-3 : tie.Need-same-length-3
 same-length-3 c = search needs
 
 returns : tie.Need-returns
-returns c = (tabled _ _ _ _ _ _ _ _ _ (c .before .before .before .before .before .before .before .before .before .settle .ensures) (c .before .before .clear-choice .ensures), c .before .before .before .before .before .before .before .before .before .settle .ensures)
+returns c =
+    let f = c .before .before .before .before .before .before .before .before .before .before .settle .ensures in
+    (tabled _ _ _ _ _ _ _ f (rw (c .before .before .before .places .ensures .0) at (c .before .before .clear-choice .ensures)), f)
 
 pub fill-spec : {M : Type 1} → statement M
 fill-spec =
@@ -33,7 +35,7 @@ fill-spec =
     (tie.spec
     slice-aggregate-settle
     settle-requires
-    mul-clear-choice
+    places-requires
     clear-choice-requires
     same-length
     same-length-2

@@ -6,35 +6,27 @@ use borrow.Author.Needs.{needs}
 use Rattle.trace.proofs.trace.Statement.{statement}
 use Rattle.trace.proofs.trace.Tie as tie
 
-cast-trace-length : tie.Need-cast-trace-length
-cast-trace-length c = search needs
-
 trace-length-requires : tie.Need-trace-length-requires
-trace-length-requires c κs = known (c .before .before .before .before .pre)
+trace-length-requires c κs = known (c .before .before .before .pre)
 
 returns : tie.Need-returns
-returns c = too-long (c .before .before .before .before .before .before .pre) (c .before .trace-length .result) (c .before .trace-length .ensures) (now (c .before .before .before .before .before .before .args .text)) (c .if1 .taken)
-
-cast-write-trace : tie.Need-cast-write-trace
-cast-write-trace c = search needs
+returns c = too-long (c .before .trace-length .result) _ (now (c .before .before .before .before .before .args .text)) (c .before .trace-length .ensures) (c .if1 .taken)
 
 write-trace-requires : tie.Need-write-trace-requires
-write-trace-requires c κs = (known (c .before .before .before .before .before .before .before .pre), omega (arith, c .before .before .trace-length .ensures, c .before .if1 .left))
+write-trace-requires c κs = (known (c .before .before .before .before .before .before .pre), omega (arith, c .before .before .trace-length .ensures, c .before .if1 .left))
 
 same-length : tie.Need-same-length
 same-length c = search needs
 
 returns-2 : tie.Need-returns-2
-returns-2 c = written-out (c .before .before .before .before .before .before .before .before .before .before .pre) (c .before .before .before .before .before .trace-length .result) (c .before .before .before .before .before .trace-length .ensures) (now (c .before .before .before .before .before .before .before .before .before .before .args .text)) _ (c .before .before .write-trace .result) (c .before .before .before .before .if1 .left) (c .before .before .write-trace .ensures)
+returns-2 c = written-out (c .before .before .before .before .before .trace-length .result) _ (now (c .before .before .before .before .before .before .before .before .before .args .text)) (c .before .before .before .before .before .trace-length .ensures) _ (c .before .before .write-trace .result) (c .before .before .before .before .if1 .left) (c .before .before .write-trace .ensures)
 
 pub trace-spec : {M : Type 1} → statement M
 trace-spec =
     tie.close
     (tie.spec
-    cast-trace-length
     trace-length-requires
     returns
-    cast-write-trace
     write-trace-requires
     same-length
     returns-2)

@@ -1,23 +1,20 @@
-use Rattle.unfold.proofs.Enquiry.{part-cleared, part-asks}
 use Prim.Native.Nat.{_-_, _*_}
-use mathlib.Core.Path.{refl, _∙_}
+use mathlib.Core.Path.{_∙_}
 use native.Mathlib.Omega.{arith}
 use lib.ListN.{length-take}
+use Rattle.unfold.proofs.Enquiry.{part-asks, part-cleared, room-is}
 use borrow.Author.Needs.{needs}
 use Rattle.unfold.proofs.unfold.Statement.{statement}
 use Rattle.unfold.proofs.unfold.Tie as tie
 
+places-requires : tie.Need-places-requires
+places-requires c κs = search needs
+
 mul-room : tie.Need-mul-room
-mul-room c = search needs
+mul-room c = let s = c .before .before .before .before .before .before in omega (arith, room-is (c .places .ensures .0), s .pre .choices, s .good .1 .1 .1 .0)
 
 mul-room-2 : tie.Need-mul-room-2
-mul-room-2 c = search needs
-
-mul-room-3 : tie.Need-mul-room-3
-mul-room-3 c = search needs
-
-mul-room-4 : tie.Need-mul-room-4
-mul-room-4 c = search needs
+mul-room-2 c = let s = c .before .before .before .before .before .before in omega (arith, room-is (c .places .ensures .0), s .pre .choices, s .good .1 .1 .1 .0)
 
 sub-write-route : tie.Need-sub-write-route
 sub-write-route c = search needs
@@ -26,7 +23,7 @@ part-write-route-start : tie.Need-part-write-route-start
 part-write-route-start c = search needs
 
 part-write-route-end : tie.Need-part-write-route-end
-part-write-route-end c = search needs
+part-write-route-end c = omega (arith, room-is (c .places .ensures .0), c .before .before .before .before .before .before .pre .choices)
 
 slice-aggregate-write-route : tie.Need-slice-aggregate-write-route
 slice-aggregate-write-route c = search needs
@@ -34,19 +31,13 @@ slice-aggregate-write-route c = search needs
 slice-aggregate-write-route-2 : tie.Need-slice-aggregate-write-route-2
 slice-aggregate-write-route-2 c = search needs
 
-slice-aggregate-write-route-3 : tie.Need-slice-aggregate-write-route-3
-slice-aggregate-write-route-3 c = search needs
-
-slice-aggregate-write-route-4 : tie.Need-slice-aggregate-write-route-4
-slice-aggregate-write-route-4 c = search needs
-
 write-route-requires : tie.Need-write-route-requires
 write-route-requires c κs =
-    let s = c .before .before .before .before .before .before .before .before .before .before .before .before .pre in
-    (part-asks s (rw length-take (omega (arith, s .choices))), record { places = omega arith; costs = omega arith }, record { places = omega arith; costs = omega arith })
+    let p = c .before .before .before .before .before .before .before .before .before .before .pre in
+    (part-asks p (rw length-take (omega (arith, room-is (c .before .before .before .before .places .ensures .0), p .choices))), omega arith, omega arith)
 
 clear-requires : tie.Need-clear-requires
-clear-requires c κs = search needs
+clear-requires c κs = omega (arith, room-is (c .before .before .before .before .before .before .before .before .before .before .before .before .places .ensures .0), c .before .before .before .before .before .before .before .before .before .before .before .before .before .before .before .before .before .before .pre .choices)
 
 same-length : tie.Need-same-length
 same-length c = search needs
@@ -56,34 +47,26 @@ same-length-2 c = search needs
 
 returns : tie.Need-returns
 returns c =
-    let r = c .before .before .before .before .before .before .before .before .before .before .before .before .write-route in
-    let s = c .before .before .before .before .before .before .before .before .before .before .before .before .before .before .before .before .before .before .before .before .before .before .before .before .before in
-    let m = 8 * (s .args .n * s .args .p * (s .args .n * s .args .p)) in
+    let r = c .before .before .before .before .before .before .before .before .before .before .write-route in
+    let s = c .before .before .before .before .before .before .before .before .before .before .before .before .before .before .before .before .before .before .before .before .before in
+    let size = c .before .before .before .before .before .before .before .before .before .before .before .before .before .before .before .places .result in
     record {
-      ks = r .ensures .ks;
-      w = _;
-      best = r .ensures .best;
-      weighs = refl;
-      steps = r .ensures .steps;
-      wrote = r .ensures .wrote;
-      choices = c .before .before .clear .ensures ∙ part-cleared (s .args .choice .now) (r .last .1 .1 .1 .1 .1 .1 .1 .1 .0) m (m - 0) (omega arith) (s .pre .choices) (r .kept .1 .1 .1 .1 .1 .1 .1 .1 .0);
+      route = r .ensures;
+      choices = c .before .before .clear .ensures ∙ part-cleared (s .args .choice .now) (r .last .1 .1 .1 .0) (8 * (size * size)) (8 * (size * size) - 0) (room-is (c .before .before .before .before .before .before .before .before .before .before .before .before .before .before .before .places .ensures .0)) (omega arith) (s .pre .choices) (r .kept .1 .1 .1 .0);
     }
 
 pub unfold-spec : {M : Type 1} → statement M
 unfold-spec =
     tie.close
     (tie.spec
+    places-requires
     mul-room
     mul-room-2
-    mul-room-3
-    mul-room-4
     sub-write-route
     part-write-route-start
     part-write-route-end
     slice-aggregate-write-route
     slice-aggregate-write-route-2
-    slice-aggregate-write-route-3
-    slice-aggregate-write-route-4
     write-route-requires
     clear-requires
     same-length

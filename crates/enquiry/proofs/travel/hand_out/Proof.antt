@@ -1,19 +1,17 @@
 use native.Mathlib.Omega.{arith}
+use Rattle.enquiry.proofs.Handing.{few, unfolds, traceable, ends-0, ends-11, is-cleared}
 use borrow.Author.Needs.{needs}
-use Rattle.enquiry.proofs.Handing.{unfolds, few, traceable, ends-0, ends-11, is-cleared}
 use Rattle.enquiry.proofs.travel.hand_out.Statement.{statement}
 use Rattle.enquiry.proofs.travel.hand_out.Tie as tie
 
 unfold-requires : tie.Need-unfold-requires
-unfold-requires c κs = let pre = c .before .before .before .before .before .before .before .before .before .pre in unfolds _ _ _ _ _ _ _ _ _ _ _ _ _ _ _ _ (pre .0) (pre .1)
+unfold-requires c κs = let p = c .before .before .before .before .before .before .before .before .pre in unfolds _ _ _ _ _ _ _ _ _ (p .0) (p .1)
 
 trace-requires : tie.Need-trace-requires
-trace-requires c κs =
-    let pre = c .before .before .before .before .before .before .before .before .before .before .before .before .before .before .before .before .pre in
-    traceable _ _ _ _ _ _ _ _ _ _ _ _ _ _ _ _ _ _ (pre .1) (c .before .before .before .before .before .before .«unfold» .ensures) (pre .0 .valid)
+trace-requires c κs = let p = c .before .before .before .before .before .before .before .before .before .before .before .before .before .before .before .pre in traceable _ _ _ _ _ _ _ _ _ _ _ (p .1) (c .before .before .before .before .before .before .«unfold» .ensures) (p .0)
 
-cast-t31 : tie.Need-cast-t31
-cast-t31 c = omega (arith, few _ _ _ _ _ _ _ _ _ _ _ (c .before .before .before .before .before .before .before .before .before .before .before .before .before .before .before .before .before .before .before .before .pre .1))
+cast-t22 : tie.Need-cast-t22
+cast-t22 c = omega (arith, few _ _ _ _ _ _ _ _ (c .before .before .before .before .before .before .before .before .before .before .before .before .before .before .before .before .before .before .before .pre .1))
 
 same-length : tie.Need-same-length
 same-length c = search needs
@@ -26,11 +24,11 @@ same-length-3 c = search needs
 
 returns : tie.Need-returns
 returns c =
-    let unfolded = c .before .before .before .before .before .before .before .before .before .before .«unfold» .ensures in
-    (ends-0 _ _ _ _ _ _ _ _ _ _ _ _ _ _ _ _ _ _ (c .before .before .before .before .before .before .before .before .before .before .before .before .before .before .before .before .before .before .before .before .pre .1) unfolded _ _ _ (c .before .before .before .trace .ensures) (c .if1 .taken), is-cleared _ _ _ _ (unfolded .choices))
+    let done = c .before .before .before .before .before .before .before .before .before .before .«unfold» .ensures in
+    (ends-0 _ _ _ _ _ _ _ _ _ _ _ (c .before .before .before .before .before .before .before .before .before .before .before .before .before .before .before .before .before .before .before .pre .1) done _ _ _ (c .before .before .before .trace .ensures) (c .if1 .taken), is-cleared _ _ _ (done .choices))
 
-cast-t32 : tie.Need-cast-t32
-cast-t32 c = omega (arith, few _ _ _ _ _ _ _ _ _ _ _ (c .before .before .before .before .before .before .before .before .before .before .before .before .before .before .before .before .before .before .before .before .pre .1))
+cast-t23 : tie.Need-cast-t23
+cast-t23 c = omega (arith, few _ _ _ _ _ _ _ _ (c .before .before .before .before .before .before .before .before .before .before .before .before .before .before .before .before .before .before .before .pre .1))
 
 same-length-4 : tie.Need-same-length-4
 same-length-4 c = search needs
@@ -43,8 +41,8 @@ same-length-6 c = search needs
 
 returns-2 : tie.Need-returns-2
 returns-2 c =
-    let unfolded = c .before .before .before .before .before .before .before .before .before .before .«unfold» .ensures in
-    (ends-11 _ _ _ _ _ _ _ _ _ _ _ _ _ _ _ _ _ _ (c .before .before .before .before .before .before .before .before .before .before .before .before .before .before .before .before .before .before .before .before .pre .1) unfolded _ _ _ (c .before .before .before .trace .ensures) (c .if1 .left), is-cleared _ _ _ _ (unfolded .choices))
+    let done = c .before .before .before .before .before .before .before .before .before .before .«unfold» .ensures in
+    (ends-11 _ _ _ _ _ _ _ _ _ _ _ (c .before .before .before .before .before .before .before .before .before .before .before .before .before .before .before .before .before .before .before .pre .1) done _ _ _ (c .before .before .before .trace .ensures) (c .if1 .left), is-cleared _ _ _ (done .choices))
 
 pub hand-out-spec : {M : Type 1} → statement M
 hand-out-spec =
@@ -52,12 +50,12 @@ hand-out-spec =
     (tie.spec
     unfold-requires
     trace-requires
-    cast-t31
+    cast-t22
     same-length
     same-length-2
     same-length-3
     returns
-    cast-t32
+    cast-t23
     same-length-4
     same-length-5
     same-length-6

@@ -1,25 +1,26 @@
 use mathlib.Core.Path.{refl, _∙_}
 use borrow.Author.Needs.{needs}
 use Rattle.tables.proofs.Settling.{left, Settling, settling-begun, settling-turn, left-less, settled}
-use Rattle.tables.proofs.Turns.{not-false}
-use Rattle.visits.proofs.Turns.{still-sweeping}
+use borrow.Author.Tests.{not-false}
+use Rattle.tables_visits.proofs.Turns.{still-sweeping}
 use Rattle.tables.proofs.settle.settle.Statement.{statement}
 use Rattle.tables.proofs.settle.settle.Tie as tie
 
 abbrev Inv-loop : tie.InvT-loop
-Inv-loop links c funs d n p weight₀ count₀ stamps₀ back₀ stamp₀ since₀ done₀ weight count stamps back stamp since done = Settling n p c links d funs weight₀ count₀ stamps₀ weight count stamps done
+Inv-loop net weight₀ count₀ stamps₀ back₀ stamp₀ since₀ done₀ weight count stamps back stamp since done =
+    Settling net weight₀ count₀ stamps₀ weight count stamps done
 
 abbrev μ-loop : tie.MeasureT-loop
-μ-loop links c funs d n p weight₀ count₀ stamps₀ back₀ stamp₀ since₀ done₀ weight count stamps back stamp since done = left weight count since done
+μ-loop net weight₀ count₀ stamps₀ back₀ stamp₀ since₀ done₀ weight count stamps back stamp since done = left weight count since done
 
-mul-prepare : tie.Need-mul-prepare Inv-loop μ-loop
-mul-prepare c = search needs
+places-requires : tie.Need-places-requires Inv-loop μ-loop
+places-requires c κs = search needs
 
 prepare-requires : tie.Need-prepare-requires Inv-loop μ-loop
-prepare-requires c κs = search needs
+prepare-requires c κs = rw (c .places .ensures .0) (c .before .before .before .before .before .before .before .pre .roomy)
 
 loop-holds : tie.Need-loop-holds Inv-loop μ-loop
-loop-holds c = settling-begun _ _ _ _ _ _ _ _ _ _ _ _ (c .before .before .before .before .before .before .before .before .before .before .before .before .pre .roomy) (c .before .before .before .before .prepare .ensures)
+loop-holds c = settling-begun _ _ _ _ _ _ _ (c .before .before .before .before .before .before .before .before .before .before .before .before .pre .roomy) (rw (c .before .before .before .before .before .places .ensures .0) at (c .before .before .before .before .prepare .ensures))
 
 sweep-all-requires : tie.Need-sweep-all-requires Inv-loop μ-loop
 sweep-all-requires c κs =
@@ -34,10 +35,10 @@ later-requires : tie.Need-later-requires Inv-loop μ-loop
 later-requires c κs = search needs
 
 loop-less : tie.Need-loop-less Inv-loop μ-loop
-loop-less c = left-less _ _ _ _ _ _ _ _ _ _ _ _ _ _ _ _ _ (c .before .before .before .before .before .before .before .before .before .before .before .before .before .before .before .before .before .before .before .before .before .before .before .before .before .before .pre .valid) (c .before .before .before .before .before .before .before .before .sweep-all .ensures) refl _ _ _ _ _ (c .before .before .before .before .before .before .before .before .before .before .before .before .before .loop .inv) (c .before .before .before .before .before .before .before .before .before .before .before .before .loop-test .taken) (c .before .since-when .ensures)
+loop-less c = left-less _ _ _ _ _ _ _ _ _ _ _ _ (c .before .before .before .before .before .before .before .before .before .before .before .before .before .before .before .before .before .before .before .before .before .before .before .before .before .before .pre .arranged) (c .before .before .before .before .before .before .before .before .sweep-all .ensures) refl _ _ _ _ _ (c .before .before .before .before .before .before .before .before .before .before .before .before .before .loop .inv) (c .before .before .before .before .before .before .before .before .before .before .before .before .loop-test .taken) (c .before .since-when .ensures)
 
 loop-again : tie.Need-loop-again Inv-loop μ-loop
-loop-again c = settling-turn _ _ _ _ _ _ _ _ _ _ _ _ _ _ _ _ _ (c .before .before .before .before .before .before .before .before .before .before .before .before .before .before .before .before .before .before .before .before .before .before .before .before .before .before .pre .valid) (c .before .before .before .before .before .before .before .before .sweep-all .ensures) refl _ _ _ _ (c .before .before .before .before .before .before .before .before .before .before .before .before .before .loop .inv) (c .before .before .before .before .before .before .before .before .sweep-all .kept .1 .1 .1 .1 .1 .1 .1 .1 .0)
+loop-again c = settling-turn _ _ _ _ _ _ _ _ _ _ _ _ (c .before .before .before .before .before .before .before .before .before .before .before .before .before .before .before .before .before .before .before .before .before .before .before .before .before .before .pre .arranged) (c .before .before .before .before .before .before .before .before .sweep-all .ensures) refl _ _ _ _ (c .before .before .before .before .before .before .before .before .before .before .before .before .before .loop .inv) (c .before .before .before .before .before .before .before .before .sweep-all .kept .1 .1 .1 .0)
 
 same-length : tie.Need-same-length Inv-loop μ-loop
 same-length c = search needs
@@ -49,7 +50,7 @@ same-length-3 : tie.Need-same-length-3 Inv-loop μ-loop
 same-length-3 c = search needs
 
 returns : tie.Need-returns Inv-loop μ-loop
-returns c = settled _ _ _ _ _ _ _ _ _ _ _ _ _ _ _ (c .before .before .before .before .before .before .before .before .before .before .before .before .before .before .pre .valid) (c .before .before .before .before .before .before .before .before .before .before .before .before .before .before .pre .roomy) (c .before .before .before .before .before .before .prepare .ensures) _ (c .before .loop .inv) (not-false _ (c .loop-test .left))
+returns c = settled _ _ _ _ _ _ _ _ _ _ (c .before .before .before .before .before .before .before .before .before .before .before .before .before .before .pre .arranged) (c .before .before .before .before .before .before .before .before .before .before .before .before .before .before .pre .roomy) (rw (c .before .before .before .before .before .before .before .places .ensures .0) at (c .before .before .before .before .before .before .prepare .ensures)) _ (c .before .loop .inv) (not-false _ (c .loop-test .left))
 
 pub settle-spec : {M : Type 1} → statement M
 settle-spec =
@@ -57,7 +58,7 @@ settle-spec =
     (tie.spec
     Inv-loop
     μ-loop
-    mul-prepare
+    places-requires
     prepare-requires
     loop-holds
     sweep-all-requires

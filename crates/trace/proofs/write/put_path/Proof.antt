@@ -2,7 +2,7 @@
 use native.Mathlib.Omega.{arith}
 use denote.Ref.{now}
 use Rattle.paper.specs.Text.{path-word}
-use Rattle.stepline.proofs.Pieces.{begin, fits, go-on, ended}
+use Rattle.trace_stepline.proofs.Pieces.{begin, fits, go-on, ended}
 use Rattle.trace.proofs.Replays.{pathPieces, path-joined}
 use borrow.Author.Needs.{needs}
 use Rattle.trace.proofs.write.put_path.Statement.{statement}

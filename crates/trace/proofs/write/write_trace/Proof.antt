@@ -2,7 +2,7 @@
 use native.Mathlib.Omega.{arith}
 use denote.Ref.{now}
 use Rattle.digits.proofs.Writing.{then}
-use Rattle.stepline.proofs.Pieces.{put-size}
+use Rattle.trace_stepline.proofs.Pieces.{put-size}
 use Rattle.trace.proofs.Replays.{trace-parts, trace-room}
 use borrow.Author.Needs.{needs}
 use Rattle.trace.proofs.write.write_trace.Statement.{statement}

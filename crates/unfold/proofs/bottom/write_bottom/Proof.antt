@@ -3,14 +3,14 @@ use borrow.Author.Needs.{needs}
 use Rattle.unfold.proofs.bottom.write_bottom.Statement.{statement}
 use Rattle.unfold.proofs.bottom.write_bottom.Tie as tie
 
-mul-words-for : tie.Need-mul-words-for
-mul-words-for c = search needs
+places-requires : tie.Need-places-requires
+places-requires c κs = search needs
 
 words-for-requires : tie.Need-words-for-requires
 words-for-requires c κs = search needs
 
-number-requires : tie.Need-number-requires
-number-requires c κs = search needs
+number-of-requires : tie.Need-number-of-requires
+number-of-requires c κs = search needs
 
 cast-begin : tie.Need-cast-begin
 cast-begin c = search needs
@@ -18,8 +18,8 @@ cast-begin c = search needs
 begin-requires : tie.Need-begin-requires
 begin-requires c κs = search needs
 
-number-requires-2 : tie.Need-number-requires-2
-number-requires-2 c κs = search needs
+number-of-requires-2 : tie.Need-number-of-requires-2
+number-of-requires-2 c κs = search needs
 
 add-mark-requires : tie.Need-add-mark-requires
 add-mark-requires c κs = search needs
@@ -29,19 +29,19 @@ same-length c = search needs
 
 returns : tie.Need-returns
 returns c =
-    let s = c .before .before .before .before .before .before .before .before .before .before .before .before in
-    bottomed (s .args .choice .now) _ _ _ (s .pre .2) (s .pre .3) (s .pre .5) (c .before .before .before .before .before .before .before .before .before .words-for .ensures .0) (c .before .before .before .before .before .before .before .before .number .ensures .0) (c .before .before .before .number2 .ensures .0) (c .before .before .before .before .before .before .before .begin .ensures) (c .before .before .add-mark .ensures)
+    let s = c .before .before .before .before .before .before .before .before .before .before .before .before .before .before in
+    bottomed (s .args .choice .now) _ _ _ _ (s .pre .2) (s .pre .3) (c .before .before .before .before .before .before .before .before .before .before .before .places .ensures .0) (c .before .before .before .before .before .before .before .before .before .before .words-for .ensures .0) (c .before .before .before .before .before .before .before .before .number-of .ensures .0) (c .before .before .before .number-of2 .ensures .0) (c .before .before .before .before .before .before .before .begin .ensures) (c .before .before .add-mark .ensures)
 
 pub write-bottom-spec : {M : Type 1} → statement M
 write-bottom-spec =
     tie.close
     (tie.spec
-    mul-words-for
+    places-requires
     words-for-requires
-    number-requires
+    number-of-requires
     cast-begin
     begin-requires
-    number-requires-2
+    number-of-requires-2
     add-mark-requires
     same-length
     returns)

@@ -1,0 +1,4 @@
+pub mod Fields
+pub mod Groups
+pub mod Steps
+pub mod Walks

@@ -1,0 +1,3 @@
+pub mod Network
+pub mod Arranged
+pub mod Next

@@ -1,4 +1,0 @@
-pub mod Rows
-pub mod Steps
-pub mod Routes
-pub mod Entries

@@ -1,0 +1,4 @@
+pub mod Cells
+pub mod Elem
+pub mod Machine
+pub mod Lent
