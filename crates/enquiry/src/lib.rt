@@ -1,4 +1,6 @@
 // The route enquiry: every network file, every enquiry of four numbers and every size of lent room gets its outcome.
+#![tactic(auto)]
+
 ghost use Rattle.paper.specs.Outcome.{outcome_of, rooms, Routed};
 
 use crate::answer::answer;

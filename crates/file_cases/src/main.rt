@@ -1,6 +1,8 @@
 // Files of document 01's lists, and damaged ones, read one after another.
 // A line for each: what it is, number, line, n, p, links, functions, and the rows of the rooms where they are few.
 // The file `cases` holds the small ones: a name, LF, the file's bytes, the byte 30, LF.
+#![tactic(auto)]
+
 ghost use Rattle.std.specs.Prelude.{◌≤◌, ◌<◌, length};
 ghost use Rattle.network_records.specs.Columns.{link_room, fun_room};
 

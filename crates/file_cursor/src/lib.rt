@@ -1,4 +1,6 @@
 // A cursor that knows the file and its present place, and the line at a place. The functions over the cursor are thin: the work is done on the slice and the number.
+#![tactic(auto)]
+
 ghost use Rattle.std.specs.Prelude.{◌≡◌};
 ghost use Rattle.file_cursor.specs.Line.{LineAt};
 

@@ -1,4 +1,6 @@
 // The fields of one line of a file, found by their number: the line goes from byte a up to its LF at byte e, and the word is field 0.
+#![tactic(auto)]
+
 ghost use Rattle.std.specs.Prelude.{◌≡◌, ◌+◌, ◌≤◌, ◌<◌, eqb, length, drop};
 ghost use Rattle.paper.specs.Text.{number, fields, same};
 ghost use Rattle.digits.specs.Read.{part, told};

@@ -1,4 +1,6 @@
 // One record on top of those kept: 3 where it is out of range, 4 where it is given already, 5 where there are 1,024, or 0, and it is kept in normal order.
+#![tactic(auto)]
+
 ghost use Rattle.std.specs.Prelude.{◌≡◌, List, ℕ, ◌+◌, ◌<◌};
 ghost use Rattle.paper.specs.Net.{Kind, Link, link, Fun, fun, net};
 ghost use Rattle.paper.specs.File.{link_line, fun_line, link_fits, fun_fits, put};

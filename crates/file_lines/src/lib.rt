@@ -1,4 +1,6 @@
 // One line of a network file, read: what it says, or that it is misshapen. The line goes from byte a up to its LF at byte e.
+#![tactic(auto)]
+
 ghost use Rattle.std.specs.Prelude.{◌≡◌, ◌≤◌, ◌<◌, length};
 ghost use Rattle.paper.specs.Text.{number, fields};
 ghost use Rattle.paper.specs.File.{kind_of, net_of, link_of, fun_of, shaped};

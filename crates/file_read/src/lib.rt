@@ -1,4 +1,6 @@
 // The network file, read line by line: number and line of a refusal, or the records in normal order, in columns.
+#![tactic(auto)]
+
 ghost use Rattle.std.specs.Prelude.{◌≡◌, List, cond, ℕ, ◌≤◌, ◌<◌, eqb, length};
 ghost use Rattle.paper.specs.Limits.{most_bytes};
 ghost use Rattle.paper.specs.Text.{fields};

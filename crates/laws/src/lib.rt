@@ -1,1 +1,2 @@
 // Mathematics over the definitions of paper: everything stands in specs/ and proofs/.
+#![tactic(auto)]

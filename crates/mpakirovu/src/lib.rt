@@ -1,4 +1,6 @@
 // The C interface: the route enquiry and the normal writer, on numbers and lent rooms; include/mpakirovu.h says it in C.
+#![tactic(auto)]
+
 ghost use Rattle.std.specs.Prelude.{◌≡◌};
 ghost use Rattle.paper.specs.File.{judge};
 ghost use Rattle.paper.specs.Outcome.{outcome, rooms, Routed, told, normally};

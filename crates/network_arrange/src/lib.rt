@@ -1,4 +1,6 @@
 // The records of an accepted network, arranged by node for the search. Whatever changes the records does so before this.
+#![tactic(auto)]
+
 ghost use Rattle.std.specs.Prelude.{◌≡◌, [], ◌∷◌, ◌+◌, ◌*◌, ◌≤◌, ◌<◌, length, replicate};
 ghost use Rattle.paper.specs.Rooms.{laid};
 ghost use Rattle.paper.specs.Limits.{most_nodes, most_protocols, most_records};

@@ -1,4 +1,6 @@
 // A network's records in columns, read by index: how wide a record is, what it is known by, and where its numbers stand.
+#![tactic(auto)]
+
 ghost use Rattle.std.specs.Prelude.{◌≡◌, ◌+◌, ◌*◌, ◌≤◌, length};
 ghost use Rattle.network_records.specs.Columns.{link_width, fun_width, number, from, to, toll, node, kind, xOf, yOf, fee};
 

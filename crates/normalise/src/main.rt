@@ -1,4 +1,6 @@
 // Reads net.tsv and writes its normal file, or the badnet line.
+#![tactic(auto)]
+
 use file_normal::file::normal_file;
 use libc::STDOUT_FILENO;
 use program_io::{load_file, write_reply};

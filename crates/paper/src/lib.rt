@@ -1,4 +1,6 @@
 // Document 01's plain types: limits, places, step keys, outcomes. Its definitions stand in specs/.
+#![tactic(auto)]
+
 pub mod key;
 pub mod limits;
 pub mod outcome;

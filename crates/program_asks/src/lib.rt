@@ -1,4 +1,6 @@
 // One input line of the route program, read: an enquiry, or misshapen. The line goes from byte a up to its LF at byte e.
+#![tactic(auto)]
+
 ghost use Rattle.std.specs.Prelude.{◌≡◌, ◌≤◌, ◌<◌, length};
 ghost use Rattle.paper.specs.Text.{number, fields};
 ghost use Rattle.paper.specs.Program.{asks_of, asked_by};

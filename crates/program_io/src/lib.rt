@@ -1,4 +1,6 @@
 // What the programs share: net.tsv is loaded, and a reply that is no trace and no normal file is written.
+#![tactic(auto)]
+
 ghost use Rattle.std.specs.Prelude.{[], ◌∷◌, ◌≤◌, length};
 ghost use Rattle.paper.specs.Text.{decimal, written};
 ghost use Rattle.digits.specs.Write.{Put};

@@ -1,4 +1,6 @@
 // The route program: the network of net.tsv, and an answer to each line of standard input. The tables are computed once for a run.
+#![tactic(auto)]
+
 ghost use Rattle.std.specs.Prelude.{◌≡◌, true, ◌≤◌, length};
 ghost use Rattle.paper.specs.Outcome.{outcome_of};
 ghost use Rattle.paper.specs.Program.{Replies};

@@ -1,4 +1,6 @@
 // The tables of a network: the least weight and the fewest steps for every pair of places, in lent rooms.
+#![tactic(auto)]
+
 ghost use Rattle.paper.specs.Rooms.{Tabled};
 ghost use Rattle.network.specs.Network.{nodes, protocols, hop_in};
 ghost use Rattle.tables_sweeps.specs.Filled.{Filled};

@@ -1,4 +1,6 @@
 // The places that one step or one tunnel leads to. A tunnel is a wrap, on inside, an unwrap of what the wrap hid, and its link.
+#![tactic(auto)]
+
 ghost use Rattle.std.specs.Prelude.{◌≡◌, ◌≤◌, length};
 ghost use Rattle.network.specs.Network.{places, Within};
 ghost use Rattle.network.specs.Arranged.{Arranged};

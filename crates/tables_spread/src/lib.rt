@@ -1,4 +1,6 @@
 // On from places that are reached, by the rows of the rooms.
+#![tactic(auto)]
+
 ghost use Rattle.std.specs.Prelude.{◌≡◌, ◌+◌, ◌*◌, ◌<◌, ◌≤◌, length, get_or};
 ghost use Rattle.tables_costs.specs.Costs.{far};
 ghost use Rattle.tables_sweeps.specs.Row.{carried, composed, onward, onwards, idle, going, goings};

@@ -1,4 +1,6 @@
 // A sweep over the rows, past those that lean on nothing new.
+#![tactic(auto)]
+
 ghost use Rattle.std.specs.Prelude.{◌≡◌, false, cond, ◌<◌, length, set};
 ghost use Rattle.network.specs.Network.{nodes, Within};
 ghost use Rattle.tables_sweeps.specs.Sweep.{stage, visited, node_rows, turned, sweep, Passing};

@@ -1,4 +1,6 @@
 // The ways on from one place, and its row lowered to them.
+#![tactic(auto)]
+
 ghost use Rattle.std.specs.Prelude.{◌≡◌, false, ◌≤◌, length};
 ghost use Rattle.network.specs.Network.{places, Within};
 ghost use Rattle.tables_costs.specs.Cells.{cells};

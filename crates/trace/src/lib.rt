@@ -1,4 +1,6 @@
 // The trace of a route: a path line, then a line for each step with the node reached and the stack after it.
+#![tactic(auto)]
+
 ghost use Rattle.paper.specs.Trace.{trace};
 ghost use Rattle.network.specs.Network.{hop_in};
 ghost use Rattle.trace_replay.specs.Keys.{keys_at};

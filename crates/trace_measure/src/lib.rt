@@ -1,4 +1,6 @@
 // The trace's length, known before a byte of it is written. No stack is needed: an allowed step takes its x or its y off the stack's text or adds its y.
+#![tactic(auto)]
+
 ghost use Rattle.std.specs.Prelude.{◌≡◌, ◌+◌, ◌≤◌, ◌<◌, length};
 ghost use Rattle.paper.specs.Normal.{kind_word};
 ghost use Rattle.paper.specs.Trace.{step_lines, trace};

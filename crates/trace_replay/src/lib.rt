@@ -1,4 +1,6 @@
 // A route replayed step by step: the node that each step reaches, the stack's height there, and the weight spent.
+#![tactic(auto)]
+
 pub mod hops;
 pub mod keys;
 pub mod packet;

@@ -1,4 +1,6 @@
 // The packet's stack: one state, altered by each step of a replay. Cells are kept bottom first.
+#![tactic(auto)]
+
 ghost use Rattle.std.specs.Prelude.{◌≡◌, [], ◌∷◌, ◌≤◌};
 ghost use Rattle.network_records.specs.Columns.{kind_of_code};
 ghost use Rattle.trace_stack.specs.Items.{highest, height_after, cell_of, items, acted, Ready};

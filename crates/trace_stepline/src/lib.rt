@@ -1,4 +1,6 @@
 // One step line: the key, the node reached, and the stack after the step, bottom first.
+#![tactic(auto)]
+
 ghost use Rattle.std.specs.Prelude.{◌≡◌, ◌∷◌, ◌+◌, ◌≤◌, length};
 ghost use Rattle.paper.specs.Trace.{dotted, step_line};
 ghost use Rattle.digits.specs.Write.{Put};

@@ -1,4 +1,6 @@
 // The one best route, unfolded into the step room from exact tables.
+#![tactic(auto)]
+
 ghost use Rattle.unfold.specs.Unfolded.{Unfolds, Unfolded};
 
 use crate::bottom::write_route;

@@ -1,4 +1,6 @@
 // The records of the open levels in the choice room: one is written blank, its places are marked one by one, and its entries are read.
+#![tactic(auto)]
+
 ghost use Rattle.std.specs.Prelude.{◌≡◌, [], ◌∷◌, ◌+◌, ◌*◌, ◌/◌, ◌%◌, ◌^◌, ◌<◌, ◌≤◌, length, get_or, replicate};
 ghost use Rattle.paper.specs.Rooms.{laid};
 ghost use Rattle.unfold_frames.specs.Frames.{words_for, bit, blank, with_mark};
