@@ -4,7 +4,7 @@ ghost use Rattle.paper.specs.Text.{number};
 ghost use Rattle.digits.specs.Read.{part, few, told, told_from, digit_of};
 
 // What is spelled: no number, or one. A value above 1,000,000,000 stands as 1,000,000,001.
-#[derive(Drop)]
+#[derive(Clone, Copy)]
 pub enum Number {
     Misshapen,
     Value(u32),

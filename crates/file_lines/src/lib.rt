@@ -12,7 +12,7 @@ use digits::read::Number;
 use file_fields::{field_is, has_fields, number_at, numbers_at};
 
 // What a line says. A number above 1,000,000,000 stands as 1,000,000,001; a kind as its code.
-#[derive(Drop)]
+#[derive(Clone, Copy)]
 pub enum Said {
     Misshapen,
     Net(u32, u32),

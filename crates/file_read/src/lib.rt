@@ -32,7 +32,7 @@ fn empty() -> Size
 // ---- one line
 
 // What a line comes to: its number, and how large the network is with it.
-#[derive(Drop)]
+#[derive(Clone, Copy)]
 struct Turn {
     number: u32,
     size: Size,
@@ -152,7 +152,7 @@ fn read_turn(file: &[u8], a: usize, e: usize, z: Size, links: &mut [u32], funs: 
 
 // What the lines so far come to: number 0, or number and line of a refusal; how many lines there were, where the next one starts,
 // which is the file's end after a refusal, and how large the network is.
-#[derive(Drop)]
+#[derive(Clone, Copy)]
 struct Reading {
     number: u32,
     line: u32,
@@ -226,7 +226,7 @@ fn read_lines(file: &[u8], links: &mut [u32], funs: &mut [u32]) -> Reading
 // ---- the file
 
 // What the file comes to: number and line of a refusal; or number 0, and how large the network is.
-#[derive(Drop)]
+#[derive(Clone, Copy)]
 pub struct Judgement {
     pub number: u32,
     pub line: u32,

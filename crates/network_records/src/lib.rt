@@ -39,7 +39,7 @@ const Y: usize = 3;
 const FEE: usize = 4;
 
 // How large a network is.
-#[derive(Drop)]
+#[derive(Clone, Copy)]
 pub struct Size {
     pub nodes: usize,
     pub protocols: usize,

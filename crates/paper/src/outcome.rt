@@ -1,7 +1,7 @@
 // An outcome, as the C host gets it.
 
 #[repr(C)]
-#[derive(Drop)]
+#[derive(Clone, Copy)]
 pub struct Outcome {
     pub number: u32,
     pub line: u32,

@@ -11,7 +11,7 @@ ghost use Rattle.program_asks.specs.Asked.{ask_of};
 use file_fields::{field_is, has_fields, numbers_at};
 
 // S, a, D and b; a number above 1,000,000,000 stands as 1,000,000,001, which is below no n or p.
-#[derive(Drop)]
+#[derive(Clone, Copy)]
 pub enum Ask {
     Misshapen,
     Enquiry(u32, u32, u32, u32),

@@ -13,7 +13,7 @@ use trace_measure::trace_length;
 pub mod write;
 
 // Whether the trace fitted its room, and the bytes written.
-#[derive(Drop)]
+#[derive(Clone, Copy)]
 pub struct Traced {
     pub fits: bool,
     pub length: usize,

@@ -27,7 +27,7 @@ fn put_path(out: &mut [u8], at: usize, weight: u32, steps: usize) -> usize
 }
 
 // How far the trace is: the packet after the step written last, and the byte that follows its line.
-#[derive(Drop)]
+#[derive(Clone, Copy)]
 pub struct Progress {
     pub packet: Packet,
     pub next: usize,

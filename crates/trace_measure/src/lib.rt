@@ -17,7 +17,7 @@ use trace_replay::keys::key_at;
 use trace_replay::packet::{Packet, begin, stepped};
 
 // Where a replay is: the packet, the bytes of its stack's text, and the bytes of the step lines so far.
-#[derive(Drop)]
+#[derive(Clone, Copy)]
 pub struct Tally {
     pub packet: Packet,
     pub dots: usize,

@@ -13,7 +13,7 @@ use network::size::{funs, links};
 use network::walk::{next_fun, next_link};
 
 // The node reached, and the weights of the function and the link together.
-#[derive(Drop)]
+#[derive(Clone, Copy)]
 pub enum Led {
     Nowhere,
     To(usize, u32),

@@ -8,7 +8,7 @@ use crate::hops::{Led, hop};
 use paper::place::Place;
 use trace_stack::height_after;
 
-#[derive(Drop)]
+#[derive(Clone, Copy)]
 pub struct Packet {
     pub node: usize,
     pub height: usize,

@@ -1,6 +1,6 @@
 // What is tried: a step from a spot by a function in use.
 // Where the unfolding stands, and what is left there.
-#[derive(Drop)]
+#[derive(Clone, Copy)]
 pub struct Spot {
     pub node: usize,
     pub protocol: usize,
@@ -9,14 +9,14 @@ pub struct Spot {
 }
 
 // A step: its key, and where it leads.
-#[derive(Drop)]
+#[derive(Clone, Copy)]
 pub struct Step {
     pub key: [u16; 4],
     pub to: Spot,
 }
 
 // A function in use: its kind, its protocols, its weight, and the protocol that it leaves on top.
-#[derive(Drop)]
+#[derive(Clone, Copy)]
 pub struct Use {
     pub kind: u16,
     pub x: u16,
