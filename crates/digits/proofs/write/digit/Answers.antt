@@ -1,0 +1,14 @@
+use Rattle.digits.proofs.write.digit.Goals as goal
+-- The power of ten comes from the table. Assumes nothing.
+use Rattle.digits.proofs.Digits.{ten_power_pos}
+use Rattle.digits.specs.Write.{digit_byte}
+use borrow.Author.Rules.{rules}
+use Rattle.digits.proofs.write.digit.Statement.{statement}
+use Rattle.digits.proofs.write.digit.Tie as tie
+
+pub nonzero_div-result : goal.nonzero_div-result
+nonzero_div-result c = rw c.ten.ensures (ten_power_pos c.args.k)
+
+pub returns : goal.returns
+unfolding digit_byte
+returns c = rw c.ten.ensures

@@ -1,0 +1,9 @@
+use Rattle.digits.proofs.write.put_byte.Goals as goal
+-- A store is a text of one byte. Assumes nothing.
+use Rattle.digits.proofs.Writing.{byte_put}
+use borrow.Author.Rules.{rules}
+use Rattle.digits.proofs.write.put_byte.Statement.{statement}
+use Rattle.digits.proofs.write.put_byte.Tie as tie
+
+pub returns : goal.returns
+returns c = byte_put _ _ _

@@ -1,0 +1,7 @@
+use Rattle.file_cases.proofs.all.Given as goal
+
+abbrev pub invariant-loop-a : goal.invariant-loop-a
+invariant-loop-a l = l.a ≤ length l.cases
+
+abbrev pub decreases-loop-a : goal.decreases-loop-a
+decreases-loop-a l = length l.cases - l.a

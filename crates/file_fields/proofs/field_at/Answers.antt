@@ -1,0 +1,19 @@
+use Rattle.file_fields.proofs.field_at.Goals as goal
+-- The loop keeps: the fields from s on are those from field i on. Assumes nothing.
+use mathlib.Core.Path.{◌≡◌}
+use Prim.Native.Nat.{◌≤◌, ◌+◌, ◌-◌}
+use native.Mathlib.Omega.{arith}
+use Rattle.file_fields.specs.Fields.{fields_from, fields_after}
+use Rattle.file_fields.proofs.Walk.{walk_start, walk_on, walk_end}
+use borrow.Author.Rules.{rules}
+use Rattle.file_fields.proofs.field_at.Statement.{statement}
+use Rattle.file_fields.proofs.field_at.Tie as tie
+
+pub loop-i-init : goal.loop-i-init
+loop-i-init c = (search rules, search rules, walk_start _ _ _ c.requires.0)
+
+pub loop-i-preserved : goal.loop-i-preserved
+loop-i-preserved c = (search rules, search rules, walk_on _ _ _ _ _ _ c.loop-i.invariant.2 c.next_field-s.ensures.1)
+
+pub returns : goal.returns
+returns c = let l = c.loop-i in (search rules, walk_end _ _ _ l.i _ _ (omega arith) l.invariant.2)

@@ -1,0 +1,7 @@
+use Rattle.file_fields.proofs.field_at.Given as goal
+
+abbrev pub invariant-loop-i : goal.invariant-loop-i
+invariant-loop-i l = (l.s ≤ l.e + 1) × (l.i ≤ l.k) × (fields_from l.file l.s l.e ≡ fields_after l.file l.a l.e l.i)
+
+abbrev pub decreases-loop-i : goal.decreases-loop-i
+decreases-loop-i l = l.k - l.i

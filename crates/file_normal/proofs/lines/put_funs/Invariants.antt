@@ -1,0 +1,8 @@
+use Rattle.file_normal.proofs.lines.put_funs.Given as goal
+
+abbrev pub invariant-loop-j : goal.invariant-loop-j
+invariant-loop-j l =
+    (l.j ≤ l.d) × Left l.initial.text l.at (texts fun_text (fun_rows l.d l.funs)) l.text l.end (texts fun_text (rows (fun_at l.funs) l.j (l.d - l.j)))
+
+abbrev pub decreases-loop-j : goal.decreases-loop-j
+decreases-loop-j l = l.d - l.j

@@ -1,0 +1,8 @@
+use Rattle.file_normal.proofs.lines.put_links.Given as goal
+
+abbrev pub invariant-loop-i : goal.invariant-loop-i
+invariant-loop-i l =
+    (l.i ≤ l.c) × Left l.initial.text l.at (texts link_text (link_rows l.c l.links)) l.text l.end (texts link_text (rows (link_at l.links) l.i (l.c - l.i)))
+
+abbrev pub decreases-loop-i : goal.decreases-loop-i
+decreases-loop-i l = l.c - l.i

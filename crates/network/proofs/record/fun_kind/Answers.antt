@@ -1,0 +1,13 @@
+use Prim.Native.Nat.{◌<◌}
+use borrow.Author.Rules.{rules}
+use Rattle.network_records.specs.Columns.{kind}
+use Rattle.network.proofs.Fields.{fun_in, ranged}
+use Rattle.network.proofs.record.fun_kind.Goals as goal
+
+pub fun_kind-requires : goal.fun_kind-requires
+fun_kind-requires c = fun_in _ _ _ c.requires.0 c.requires.1 c.fun_room.ensures
+
+pub returns : goal.returns
+returns c =
+    let a = c.args in
+    ranged kind (λ k. k < 3) _ _ _ _ c.fun_kind.ensures c.fun_room.ensures (c.requires.0.valid.fun-kind a.j c.requires.1)

@@ -1,0 +1,14 @@
+use Prim.Native.Nat.{◌<◌}
+use borrow.Author.Rules.{rules}
+use Rattle.network_records.specs.Columns.{node}
+use Rattle.network.specs.Network.{nodes}
+use Rattle.network.proofs.Fields.{fun_in, ranged}
+use Rattle.network.proofs.record.fun_node.Goals as goal
+
+pub fun_node-requires : goal.fun_node-requires
+fun_node-requires c = fun_in _ _ _ c.requires.0 c.requires.1 c.fun_room.ensures
+
+pub returns : goal.returns
+returns c =
+    let a = c.args in
+    ranged node (λ k. k < nodes a.net.now) _ _ _ _ c.fun_node.ensures c.fun_room.ensures (c.requires.0.valid.fun-node a.j c.requires.1)

@@ -1,0 +1,14 @@
+use Prim.Native.Nat.{◌<◌}
+use borrow.Author.Rules.{rules}
+use Rattle.network_records.specs.Columns.{to}
+use Rattle.network.specs.Network.{nodes}
+use Rattle.network.proofs.Fields.{link_in, ranged}
+use Rattle.network.proofs.record.link_to.Goals as goal
+
+pub link_to-requires : goal.link_to-requires
+link_to-requires c = link_in _ _ _ c.requires.0 c.requires.1 c.link_room.ensures
+
+pub returns : goal.returns
+returns c =
+    let a = c.args in
+    ranged to (λ k. k < nodes a.net.now) _ _ _ _ c.link_to.ensures c.link_room.ensures (c.requires.0.valid.link-to a.i c.requires.1)

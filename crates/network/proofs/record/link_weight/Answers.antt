@@ -1,0 +1,13 @@
+use Prim.Native.Nat.{◌≤◌}
+use borrow.Author.Rules.{rules}
+use Rattle.network_records.specs.Columns.{toll}
+use Rattle.network.proofs.Fields.{link_in, ranged}
+use Rattle.network.proofs.record.link_weight.Goals as goal
+
+pub link_weight-requires : goal.link_weight-requires
+link_weight-requires c = link_in _ _ _ c.requires.0 c.requires.1 c.link_room.ensures
+
+pub returns : goal.returns
+returns c =
+    let a = c.args in
+    ranged toll (λ k. k ≤ 1000000000) _ _ _ _ c.link_weight.ensures c.link_room.ensures (c.requires.0.valid.link-weight a.i c.requires.1)

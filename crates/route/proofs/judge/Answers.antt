@@ -1,0 +1,5 @@
+use borrow.Author.Rules.{rules}
+use Rattle.route.proofs.judge.Goals as goal
+
+pub listen-requires : goal.listen-requires
+listen-requires c = (c.load-j.ensures.holds c.if-j-ne0.false).arranged

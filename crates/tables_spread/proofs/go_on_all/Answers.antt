@@ -1,0 +1,26 @@
+use native.Mathlib.Omega.{arith}
+use borrow.Author.Rules.{rules}
+use Rattle.tables_spread.proofs.Turns.{still_spreading}
+use Rattle.tables_sweeps.proofs.Loops.{turn}
+use Rattle.tables_sweeps.specs.Row.{onward, onwards}
+use Rattle.tables_costs.specs.Loop.{upto}
+use lib.ListN.{length}
+use mathlib.Core.Path.{◌≡◌}
+use Prim.Native.Nat.{◌-◌, ◌≤◌}
+use Rattle.tables_spread.proofs.go_on_all.Goals as goal
+
+pub loop-r-init : goal.loop-r-init
+unfolding upto
+loop-r-init c = search rules
+
+pub go_on-requires : goal.go_on-requires
+go_on-requires c = record { spreading = still_spreading _ c.requires c.loop-r.invariant.1; r_lt_size = search rules }
+
+pub loop-r-preserved : goal.loop-r-preserved
+loop-r-preserved c = (search rules, search rules, turn _ _ _ _ _ c.loop-r.invariant.2 c.go_on.ensures)
+
+pub returns : goal.returns
+unfolding onwards
+returns c =
+    let e : c.loop-r.r ≡ c.args.size = omega arith in
+    rw e at c.loop-r.invariant.2

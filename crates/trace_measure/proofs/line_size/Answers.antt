@@ -1,0 +1,12 @@
+use Rattle.trace_measure.proofs.line_size.Goals as goal
+-- The sizes of a step line's fields, added up. Assumes nothing.
+use native.Mathlib.Omega.{arith}
+use Rattle.trace_replay.specs.Keys.{key_of}
+use Rattle.trace_measure.specs.Sizes.{line_size}
+use borrow.Author.Rules.{rules}
+use Rattle.trace_measure.proofs.line_size.Statement.{statement}
+use Rattle.trace_measure.proofs.line_size.Tie as tie
+
+pub returns : goal.returns
+unfolding key_of line_size
+returns c = (omega (arith, c.width-4.ensures, c.width-3.ensures, c.width-2.ensures, c.word_size.ensures, c.width.ensures), search rules)

@@ -1,0 +1,7 @@
+use Rattle.trace_measure.proofs.steps_size.Given as goal
+
+abbrev pub invariant-loop-i : goal.invariant-loop-i
+invariant-loop-i l = (l.i ≤ l.steps) × ((n : ℕ) → Tallied l.net (keys_left l.step l.steps 0) n l.initial.t → Tallied l.net (keys_left l.step l.steps l.i) n l.t)
+
+abbrev pub decreases-loop-i : goal.decreases-loop-i
+decreases-loop-i l = l.steps - l.i

@@ -1,0 +1,7 @@
+use Rattle.trace_replay.proofs.hops.link_of.Given as goal
+
+abbrev pub invariant-loop-i : goal.invariant-loop-i
+invariant-loop-i l = Sought (leaves l.net l.v) (λ k. eqb (number l.net k) l.l) (links l.net) l.i
+
+abbrev pub decreases-loop-i : goal.decreases-loop-i
+decreases-loop-i l = l.end - l.i

@@ -1,0 +1,17 @@
+use Prim.Native.Nat.{◌*◌, ◌-◌, ◌≤◌}
+use mathlib.Core.Path.{◌≡◌, refl, ◌∙◌}
+use native.Mathlib.Omega.{arith}
+use lib.ListN.{length}
+use Rattle.unfold_exits.specs.Lists.{Gathered}
+use Rattle.unfold_exits.specs.Exits.{LeavesBy}
+use Rattle.unfold_exits.proofs.Listing.{gathered_none}
+use Rattle.unfold_exits.proofs.Places.{level_listed}
+use borrow.Author.Rules.{rules}
+use Rattle.unfold_exits.proofs.levels.list_level.Given as goal
+
+abbrev pub invariant-loop-q : goal.invariant-loop-q
+invariant-loop-q l =
+    (l.q ≤ l.words) × Gathered (LeavesBy l.size l.weight l.count l.choice l.o) (16 * l.q) l.exits l.len × (length l.exits ≡ length l.initial.exits)
+
+abbrev pub decreases-loop-q : goal.decreases-loop-q
+decreases-loop-q l = l.words - l.q

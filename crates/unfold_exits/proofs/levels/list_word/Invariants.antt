@@ -1,0 +1,17 @@
+use Prim.Native.Nat.{◌+◌, ◌*◌, ◌-◌, ◌≤◌}
+use mathlib.Core.Path.{◌≡◌, refl, ◌∙◌}
+use native.Mathlib.Omega.{arith}
+use lib.ListN.{length}
+use Rattle.unfold_exits.specs.Lists.{Gathered}
+use Rattle.unfold_exits.specs.Exits.{LeavesBy}
+use Rattle.unfold_exits.proofs.Listing.{gathered_to}
+use Rattle.unfold_exits.proofs.Places.{word_past}
+use borrow.Author.Rules.{rules}
+use Rattle.unfold_exits.proofs.levels.list_word.Given as goal
+
+abbrev pub invariant-loop-e : goal.invariant-loop-e
+invariant-loop-e l =
+    (l.e ≤ 16 * (l.q + 1)) × Gathered (LeavesBy l.size l.weight l.count l.choice l.o) l.e l.exits l.m × (length l.exits ≡ length l.initial.exits)
+
+abbrev pub decreases-loop-e : goal.decreases-loop-e
+decreases-loop-e l = 16 * (l.q + 1) - l.e

@@ -1,0 +1,15 @@
+use mathlib.Core.Path.{◌≡◌, refl}
+use native.Mathlib.Omega.{arith}
+use Rattle.unfold_exits.proofs.Least.{least_more, least_all}
+use Rattle.unfold_exits.specs.Lists.{over_exit, finishing}
+use Prim.Native.Nat.{◌-◌, ◌≤◌}
+use Rattle.unfold_exits.specs.Cost.{least}
+use borrow.Author.Rules.{rules}
+use Rattle.unfold_exits.proofs.lists.finish.Given as goal
+
+abbrev pub invariant-loop-i : goal.invariant-loop-i
+invariant-loop-i l =
+    (l.i ≤ l.len) × (l.best ≡ least (over_exit l.weight l.count l.exits l.row) l.i)
+
+abbrev pub decreases-loop-i : goal.decreases-loop-i
+decreases-loop-i l = l.len - l.i

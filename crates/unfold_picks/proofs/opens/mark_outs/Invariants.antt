@@ -1,0 +1,16 @@
+use Prim.Native.Nat.{◌-◌, ◌≤◌}
+use mathlib.Core.Path.{◌≡◌, refl, ◌∙◌}
+use native.Mathlib.Omega.{arith}
+use lib.ListN.{length}
+use Rattle.unfold_frames.specs.Frames.{words_for}
+use Rattle.unfold_picks.specs.Opening.{Adds, MeetsOne}
+use Rattle.unfold_picks.proofs.Adding.{meets_none, meets_more, meets_all, still_marking}
+use borrow.Author.Rules.{rules}
+use Rattle.unfold_picks.proofs.opens.mark_outs.Given as goal
+
+abbrev pub invariant-loop-i : goal.invariant-loop-i
+invariant-loop-i l =
+    (l.i ≤ l.len) × Adds (words_for l.size) l.o (MeetsOne l.weight l.count l.outs l.row l.left l.i) l.initial.choice l.choice × (length l.choice ≡ length l.initial.choice)
+
+abbrev pub decreases-loop-i : goal.decreases-loop-i
+decreases-loop-i l = l.len - l.i
