@@ -73,6 +73,7 @@ le_antisym_v a b p q = go (view a b p) (view b a q)
     go : {a b : Value} → View a b → View b a → a ≡ b
     go top top = refl
     go both both = refl
+    go (bottom {w = w} {s = s}) x4 = elim x4 [ ]
     go (light h) (light g) = absurd (omega arith)
     go (light h) (equal g l) = absurd (omega arith)
     go (equal h k) (light g) = absurd (omega arith)

@@ -1,7 +1,7 @@
 -- Taking the least key after which there is a rest of just what is left gives the first rest; at the least cost that is the best route.
 -- Assumes nothing.
 use Prim.Native.Nat.{ℕ, suc, ◌+◌, ◌<◌, ◌≤◌, min}
-use mathlib.Core.Path.{◌≡◌, refl, sym, ap, ◌∙◌}
+use mathlib.Core.Path.{◌≡◌, refl, subst, sym, ap, ◌∙◌}
 use mathlib.Core.List.{List, [], ◌∷◌, ◌++◌, append_assoc, append-nil}
 use mathlib.Core.Option.{Option, some, some-injective}
 use mathlib.Core.Logic.{◌⊎◌, inl, inr}
@@ -64,10 +64,24 @@ module _ (hop : Key → ℕ → Option (ℕ × ℕ)) (D b : ℕ) where
       let h : c ≡ c' = ap (λ (i : ℕ × ℕ). i.1) f in
       rw (g, h, e) same
 
+  once_at : {v x x' t z c t' z' c' : ℕ} {H H' G G' : List ℕ} {k k' : Key} → Step hop v x H k c t z G → Step hop v x' H' k' c' t' z' G' → x ≡ x' → H ≡ H' → k ≡ k' → Same t z G c t' z' G' c'
+  once_at (by_conv {v = v} {x = x} {t = t} {z = z} {H = H} l c h) (by_conv {t = t'} {z = z'} l' c' h') p q e =
+      subst (λ (L : List ℕ). Same t z H c t' z' L c') q (same_by H (hop (key l conv x z) v) h (ap (λ (j : Key). hop j v) e ∙ h') cc)
+  once_at (by_wrap {v = v} {x = x} {t = t} {z = z} {H = H} l c h) (by_wrap {x = x'} {t = t'} {z = z'} {H = H'} l' c' h') p q e =
+      let f : x ∷ H ≡ x' ∷ H' = cc in
+      subst (λ (L : List ℕ). Same t z (x ∷ H) c t' z' L c') f (same_by (x ∷ H) (hop (key l wrap x z) v) h (ap (λ (j : Key). hop j v) e ∙ h') cc)
+  once_at (by_unwrap {v = v} {x = x} {t = t} {z = z} {H = H} l c h) (by_unwrap {t = t'} {z = z'} {H = H'} l' c' h') p q e =
+      let f : H ≡ H' = cc in
+      subst (λ (L : List ℕ). Same t z H c t' z' L c') f (same_by H (hop (key l unwrap z x) v) h (ap (λ (j : Key). hop j v) e ∙ h') cc)
+  once_at (by_conv l c h) (by_wrap l' c' h') p q e = absurd (cc)
+  once_at (by_conv l c h) (by_unwrap l' c' h') p q e = absurd (cc)
+  once_at (by_wrap l c h) (by_conv l' c' h') p q e = absurd (cc)
+  once_at (by_wrap l c h) (by_unwrap l' c' h') p q e = absurd (cc)
+  once_at (by_unwrap l c h) (by_conv l' c' h') p q e = absurd (cc)
+  once_at (by_unwrap l c h) (by_wrap l' c' h') p q e = absurd (cc)
+
   pub once : {v x t z c t' z' c' : ℕ} {H G G' : List ℕ} {k : Key} → Step hop v x H k c t z G → Step hop v x H k c' t' z' G' → Same t z G c t' z' G' c'
-  once (by_conv {v = v} {x = x} {z = z} {H = H} l c h) (by_conv _ c' h') = same_by H (hop (key l conv x z) v) h h' refl
-  once (by_wrap {v = v} {x = x} {z = z} {H = H} l c h) (by_wrap _ c' h') = same_by (x ∷ H) (hop (key l wrap x z) v) h h' refl
-  once (by_unwrap {v = v} {x = x} {z = z} {H = H} l c h) (by_unwrap _ c' h') = same_by H (hop (key l unwrap z x) v) h h' refl
+  once s r = once_at s r refl refl refl
 
   same_first : {t z u m c t' z' c' : ℕ} {G G' : List ℕ} {js : List Key} → First hop D b t z G u m js → Same t z G c t' z' G' c' → (r : Rest hop D b t' z' G')
       → c' + price hop D b r ≡ c + u → length (path hop D b r) ≡ m → Lex (flat js) (flat (path hop D b r))

@@ -126,6 +126,7 @@ whole l (v ∷ hs) w gs p e = go p
   where
     go : Parted l (v ∷ hs) → l ≡ w ++ tabbed gs
     go (parted a b f) = cc
+whole l [] w gs p e = elim p [ ]
 
 pub net_range : (n p : ℕ) → net_fits n p ≡ true → (1 ≤ n) × (n ≤ 256) × (1 ≤ p) × (p ≤ 16) × (n * p ≤ 1024)
 unfolding net_fits

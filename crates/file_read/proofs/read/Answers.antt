@@ -23,4 +23,4 @@ returns c =
     let i = c.read_lines-s.ensures in
     let z = c.if-s-ne0.false in
     let j = file_accepted _ _ _ _ _ _ i c.if-file-eq0.false z in
-record { judged = j; plain = (record { accepts = λ _. refl; refuses = λ n. absurd (n refl) }, (λ _. read_valid _ _ _ _ j (i.held z), λ _. i.past z)); }
+    record { judged = j; plain = (record { accepts = λ _. refl; refuses = λ n. absurd (n refl) }, (λ _. read_valid _ _ _ _ j (i.held z), λ _. i.past z)); }

@@ -18,4 +18,4 @@ travel-requires c =
 pub returns : goal.returns
 returns c =
     let t = c.travel.ensures in
-record { replies = goes_on _ c.in_range.ensures (not-false _ c.if-not-in_range.false) (not-false _ c.if-not-tabled.false) t.ends_in; ready = λ h. still_ready _ _ _ _ _ t.choice_after (c.requires.1 h); }
+    record { replies = goes_on _ c.in_range.ensures (not-false _ c.if-not-in_range.false) (not-false _ c.if-not-tabled.false) t.ends_in; ready = λ h. still_ready _ _ _ _ _ t.choice_after (c.requires.1 h); }

@@ -15,4 +15,4 @@ pub serve-requires-2 : goal.serve-requires-2
 serve-requires-2 c =
     let p = c.requires in
     let filled = c.fill.ensures in
-record { arranged = (p.arranged, λ t. made_ready _ _ _ _ _ _ _ (small _ _ _ _ _ c.requires.arranged c.places.ensures.0 c.if-places-gt-PLACES.false refl refl refl) filled.tabled filled.filled); input_len_bound = p.input_len_bound; }
+    record { arranged = (p.arranged, λ t. made_ready _ _ _ _ _ _ _ (small _ _ _ _ _ c.requires.arranged c.places.ensures.0 c.if-places-gt-PLACES.false refl refl refl) filled.tabled filled.filled); input_len_bound = p.input_len_bound; }
