@@ -1,3 +1,7 @@
+-- The loop keeps: a is within the cases. Assumes nothing.
+use borrow.Author.Rules.{rules}
+use Prim.Native.Nat.{◌≤◌, ◌-◌}
+use lib.ListN.{length}
 use Rattle.file_cases.proofs.all.Given as goal
 
 abbrev pub invariant-loop-a : goal.invariant-loop-a

@@ -1,3 +1,6 @@
+-- The loop counts up to k. Assumes nothing.
+use borrow.Author.Rules.{rules}
+use Prim.Native.Nat.{◌≤◌, ◌-◌}
 use Rattle.file_cases.proofs.tell_entries.Given as goal
 
 abbrev pub invariant-loop-i : goal.invariant-loop-i

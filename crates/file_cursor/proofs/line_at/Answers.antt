@@ -1,9 +1,7 @@
-use Rattle.file_cursor.proofs.line_at.Goals as goal
 -- The line ends where the first LF is found, or where the file ends. Assumes nothing.
 use native.Mathlib.Omega.{arith}
 use borrow.Author.Rules.{rules}
-use Rattle.file_cursor.proofs.line_at.Statement.{statement}
-use Rattle.file_cursor.proofs.line_at.Tie as tie
+use Rattle.file_cursor.proofs.line_at.Goals as goal
 
 pub returns-then-e-size : goal.returns-then-e-size
 returns-then-e-size c = record { found = λ h. c.find-e.ensures; past = λ h. absurd (omega arith); next = omega arith }

@@ -1,4 +1,3 @@
-use Rattle.file_fields.proofs.field_at.Goals as goal
 -- The loop keeps: the fields from s on are those from field i on. Assumes nothing.
 use mathlib.Core.Path.{◌≡◌}
 use Prim.Native.Nat.{◌≤◌, ◌+◌, ◌-◌}
@@ -6,8 +5,7 @@ use native.Mathlib.Omega.{arith}
 use Rattle.file_fields.specs.Fields.{fields_from, fields_after}
 use Rattle.file_fields.proofs.Walk.{walk_start, walk_on, walk_end}
 use borrow.Author.Rules.{rules}
-use Rattle.file_fields.proofs.field_at.Statement.{statement}
-use Rattle.file_fields.proofs.field_at.Tie as tie
+use Rattle.file_fields.proofs.field_at.Goals as goal
 
 pub loop-i-init : goal.loop-i-init
 loop-i-init c = (search rules, search rules, walk_start _ _ _ c.requires.0)

@@ -1,4 +1,3 @@
-use Rattle.file_fields.proofs.field_is.Goals as goal
 -- The field is found by the walk; a missing one is no word. Assumes nothing.
 use mathlib.Core.Path.{ap, ◌∙◌}
 use Prim.Native.Nat.{ℕ}
@@ -6,8 +5,7 @@ use mathlib.Core.List.{List}
 use Rattle.paper.specs.Text.{same}
 use Rattle.file_fields.proofs.Walk.{no_word, field_in}
 use borrow.Author.Rules.{rules}
-use Rattle.file_fields.proofs.field_is.Statement.{statement}
-use Rattle.file_fields.proofs.field_is.Tie as tie
+use Rattle.file_fields.proofs.field_is.Goals as goal
 
 pub returns-then-e-s : goal.returns-then-e-s
 returns-then-e-s c = no_word _ _ _ _ _ _ c.requires.2 c.if-e-s.true c.field_at-s.ensures.1

@@ -1,4 +1,3 @@
-use Rattle.file_fields.proofs.find.Goals as goal
 -- The loop keeps: the byte stands nowhere from a up to i. Assumes nothing.
 use mathlib.Core.Path.{◌≡◌}
 use Prim.Native.Nat.{ℕ, ◌≤◌, ◌<◌, ◌-◌}
@@ -6,8 +5,7 @@ use lib.ListN.{get_or}
 use native.Mathlib.Omega.{arith}
 use borrow.Author.Count.{below_more}
 use borrow.Author.Rules.{rules}
-use Rattle.file_fields.proofs.find.Statement.{statement}
-use Rattle.file_fields.proofs.find.Tie as tie
+use Rattle.file_fields.proofs.find.Goals as goal
 
 pub loop-i-init : goal.loop-i-init
 loop-i-init c = (search rules, search rules, λ k h g e. absurd (omega arith))

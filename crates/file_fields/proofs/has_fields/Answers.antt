@@ -1,9 +1,7 @@
-use Rattle.file_fields.proofs.has_fields.Goals as goal
 -- The walk stands at the last of k fields, and there is no field behind it. Assumes nothing.
 use Rattle.file_fields.proofs.Walk.{too_few, just_enough}
 use borrow.Author.Rules.{rules}
-use Rattle.file_fields.proofs.has_fields.Statement.{statement}
-use Rattle.file_fields.proofs.has_fields.Tie as tie
+use Rattle.file_fields.proofs.has_fields.Goals as goal
 
 pub returns-then-e-last : goal.returns-then-e-last
 returns-then-e-last c = too_few _ _ _ _ _ c.requires.2 c.if-e-last.true c.field_at-last.ensures.1

@@ -1,4 +1,3 @@
-use Rattle.file_fields.proofs.is_word.Goals as goal
 -- The loop keeps: the part is the word if what is left of both from byte i on is the same. Assumes nothing.
 use mathlib.Core.Path.{◌≡◌, sym, ◌∙◌}
 use Prim.Native.Nat.{◌≤◌, ◌+◌, ◌-◌}
@@ -8,8 +7,7 @@ use Rattle.paper.specs.Text.{same}
 use Rattle.digits.specs.Read.{part}
 use Rattle.file_fields.proofs.Words.{word_on, word_off, word_end, word_length, word_start}
 use borrow.Author.Rules.{rules}
-use Rattle.file_fields.proofs.is_word.Statement.{statement}
-use Rattle.file_fields.proofs.is_word.Tie as tie
+use Rattle.file_fields.proofs.is_word.Goals as goal
 
 pub returns-then-t-s : goal.returns-then-t-s
 returns-then-t-s c = sym (word_length _ _ _ _ c.requires.1 c.if-t-s.true)

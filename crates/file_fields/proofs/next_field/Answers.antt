@@ -1,9 +1,7 @@
-use Rattle.file_fields.proofs.next_field.Goals as goal
 -- Past the end there is no field more; before it the next field starts behind the tab that was found. Assumes nothing.
 use Rattle.file_fields.proofs.Walk.{next_in, next_out}
 use borrow.Author.Rules.{rules}
-use Rattle.file_fields.proofs.next_field.Statement.{statement}
-use Rattle.file_fields.proofs.next_field.Tie as tie
+use Rattle.file_fields.proofs.next_field.Goals as goal
 
 pub returns-then-e-s : goal.returns-then-e-s
 returns-then-e-s c = (search rules, next_out _ _ _ c.if-e-s.true)

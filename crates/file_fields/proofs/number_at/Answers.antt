@@ -1,4 +1,3 @@
-use Rattle.file_fields.proofs.number_at.Goals as goal
 -- The field is found by the walk; a missing one spells no number. Assumes nothing.
 use mathlib.Core.Path.{ap, ◌∙◌}
 use Prim.Native.Nat.{ℕ}
@@ -7,8 +6,7 @@ use Rattle.paper.specs.Text.{number}
 use Rattle.digits.specs.Read.{told}
 use Rattle.file_fields.proofs.Walk.{no_number, field_in}
 use borrow.Author.Rules.{rules}
-use Rattle.file_fields.proofs.number_at.Statement.{statement}
-use Rattle.file_fields.proofs.number_at.Tie as tie
+use Rattle.file_fields.proofs.number_at.Goals as goal
 
 pub returns-then-e-s : goal.returns-then-e-s
 returns-then-e-s c = no_number _ _ _ _ _ c.if-e-s.true c.field_at-s.ensures.1

@@ -1,4 +1,3 @@
-use Rattle.file_fields.proofs.numbers_at.Goals as goal
 -- The loop keeps: the fields before the i-th are numbers, and stand in the room. Assumes nothing.
 use mathlib.Core.Path.{sym, ◌∙◌}
 use Prim.Native.Nat.{◌-◌}
@@ -6,8 +5,7 @@ use lib.ListN.{length}
 use native.Mathlib.Omega.{arith}
 use Rattle.file_fields.proofs.Numbers.{SoFar, one_more, one_less, all_numbers, one_is_none}
 use borrow.Author.Rules.{rules}
-use Rattle.file_fields.proofs.numbers_at.Statement.{statement}
-use Rattle.file_fields.proofs.numbers_at.Tie as tie
+use Rattle.file_fields.proofs.numbers_at.Goals as goal
 
 pub loop-i-init : goal.loop-i-init
 loop-i-init c = record { within = search rules; same = search rules; values = λ j h. absurd (omega arith) }

@@ -1,9 +1,7 @@
-use Rattle.file_keep.proofs.fun_fits.Goals as goal
 -- One test after another, as the definition has them. Assumes nothing.
 use Rattle.paper.specs.File.{fun_fits}
 use borrow.Author.Tests.{lt-ltb, le-ltb}
-use Rattle.file_keep.proofs.fun_fits.Statement.{statement}
-use Rattle.file_keep.proofs.fun_fits.Tie as tie
+use Rattle.file_keep.proofs.fun_fits.Goals as goal
 
 pub returns-then-n-v : goal.returns-then-n-v
 unfolding fun_fits

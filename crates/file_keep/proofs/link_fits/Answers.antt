@@ -1,9 +1,7 @@
-use Rattle.file_keep.proofs.link_fits.Goals as goal
 -- One test after another, as the definition has them. Assumes nothing.
 use Rattle.paper.specs.File.{link_fits}
 use borrow.Author.Tests.{le-leb, lt-leb, lt-ltb, le-ltb}
-use Rattle.file_keep.proofs.link_fits.Statement.{statement}
-use Rattle.file_keep.proofs.link_fits.Tie as tie
+use Rattle.file_keep.proofs.link_fits.Goals as goal
 
 pub returns-then-l-gt-MOST_NUMBER : goal.returns-then-l-gt-MOST_NUMBER
 unfolding link_fits

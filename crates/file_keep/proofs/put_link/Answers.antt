@@ -1,14 +1,10 @@
-
-use Rattle.file_keep.proofs.put_link.Goals as goal
-
 -- A link added as a row of four is the link inserted. Assumes nothing.
 use mathlib.Core.Path.{sym, ◌∙◌}
 use native.Mathlib.Omega.{arith}
 use borrow.Author.Tests.{not-true, not-false}
 use Rattle.file_keep.proofs.Records.{past_none, added_order, added_past, link_wide, link_added}
 use borrow.Author.Rules.{rules}
-use Rattle.file_keep.proofs.put_link.Statement.{statement}
-use Rattle.file_keep.proofs.put_link.Tie as tie
+use Rattle.file_keep.proofs.put_link.Goals as goal
 
 pub returns-then-not-link_fits : goal.returns-then-not-link_fits
 returns-then-not-link_fits c = let f = sym c.link_fits.ensures ∙ not-true _ c.if-not-link_fits.true in

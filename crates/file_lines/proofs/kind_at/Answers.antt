@@ -1,10 +1,8 @@
-use Rattle.file_lines.proofs.kind_at.Goals as goal
 -- One word after another is compared; the first that fits gives its code. Assumes nothing.
 use Rattle.paper.specs.Text.{conv_word, wrap_word, unwrap_word}
 use Rattle.file_lines.proofs.Told.{kind_conv, kind_wrap, kind_unwrap, kind_none}
 use borrow.Author.Rules.{rules}
-use Rattle.file_lines.proofs.kind_at.Statement.{statement}
-use Rattle.file_lines.proofs.kind_at.Tie as tie
+use Rattle.file_lines.proofs.kind_at.Goals as goal
 
 pub returns-then-field_is : goal.returns-then-field_is
 unfolding conv_word

@@ -1,11 +1,9 @@
-use Rattle.file_lines.proofs.read_line.Goals as goal
 -- The first word that fits decides; then the number of fields does. Assumes nothing.
 use mathlib.Core.Path.{sym, ◌∙◌}
 use Rattle.paper.specs.Text.{net_word, link_word, fun_word}
 use Rattle.file_lines.proofs.Told.{net_shape, link_shape, fun_shape, no_shape, none_said}
 use borrow.Author.Rules.{rules}
-use Rattle.file_lines.proofs.read_line.Statement.{statement}
-use Rattle.file_lines.proofs.read_line.Tie as tie
+use Rattle.file_lines.proofs.read_line.Goals as goal
 
 pub returns-then-has_fields : goal.returns-then-has_fields
 unfolding net_word

@@ -1,11 +1,9 @@
-use Rattle.file_read.proofs.net_fits.Goals as goal
 -- One test after another, as the definition has them; the product is formed of small numbers only. Assumes nothing.
 use native.Mathlib.Omega.{arith}
 use native.Mathlib.Nat.{mul-le-mul}
 use Rattle.paper.specs.File.{net_fits}
 use borrow.Author.Tests.{le-leb, lt-leb}
-use Rattle.file_read.proofs.net_fits.Statement.{statement}
-use Rattle.file_read.proofs.net_fits.Tie as tie
+use Rattle.file_read.proofs.net_fits.Goals as goal
 
 pub returns-then-n-lt1 : goal.returns-then-n-lt1
 unfolding net_fits

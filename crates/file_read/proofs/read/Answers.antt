@@ -1,13 +1,9 @@
-
-use Rattle.file_read.proofs.read.Goals as goal
-
 -- The size, then the lines; an accepted file leaves valid records. Assumes nothing.
 use mathlib.Core.Path.{refl}
 use native.Mathlib.Omega.{arith}
 use Rattle.file_read.proofs.File.{file_large, file_empty, file_refused, file_accepted, refuses, read_valid}
 use borrow.Author.Rules.{rules}
-use Rattle.file_read.proofs.read.Statement.{statement}
-use Rattle.file_read.proofs.read.Tie as tie
+use Rattle.file_read.proofs.read.Goals as goal
 
 pub returns-then-file-gt-MOST_BYTES : goal.returns-then-file-gt-MOST_BYTES
 returns-then-file-gt-MOST_BYTES c = let r = refuses _ _ 1 0 _ _ _ _ c.refused.ensures (λ z. absurd (omega arith)) (λ m. file_large _ m c.if-file-gt-MOST_BYTES.true) in record { judged = r.0; plain = r.1; valid = r.2; untouched = r.3; }

@@ -1,10 +1,8 @@
-use Rattle.file_read.proofs.read_header.Goals as goal
 -- What is said of the first line decides as the line does. Assumes nothing.
 use mathlib.Core.Path.{sym, ◌∙◌}
 use Rattle.file_read.proofs.Told.{opens_net, opens_wide, opens_bad, header_link, header_fun, header_none}
 use borrow.Author.Rules.{rules}
-use Rattle.file_read.proofs.read_header.Statement.{statement}
-use Rattle.file_read.proofs.read_header.Tie as tie
+use Rattle.file_read.proofs.read_header.Goals as goal
 
 pub returns-then-net_fits : goal.returns-then-net_fits
 returns-then-net_fits c = opens_net _ _ _ _ _ (sym c.s-1.given.1 ∙ c.read_line-s.ensures) c.index-nodes.ensures c.index-protocols.ensures (sym c.net_fits.ensures ∙ c.if-net_fits.true)

@@ -1,6 +1,3 @@
-
-use Rattle.file_read.proofs.read_record.Goals as goal
-
 -- The line is put on top of what is kept, as its kind of line is. Assumes nothing.
 use mathlib.Core.Path.{sym, ◌∙◌}
 use native.Mathlib.Omega.{arith}
@@ -8,8 +5,7 @@ use Rattle.network_records.specs.Columns.{net_of}
 use Rattle.file_read.proofs.Told.{said_link, said_fun, said_code, said_net, said_none}
 use Rattle.file_read.proofs.Turns.{grown_link, grown_fun}
 use borrow.Author.Rules.{rules}
-use Rattle.file_read.proofs.read_record.Statement.{statement}
-use Rattle.file_read.proofs.read_record.Tie as tie
+use Rattle.file_read.proofs.read_record.Goals as goal
 
 pub put_fun-number-requires : goal.put_fun-number-requires
 put_fun-number-requires c = let o = c.requires.2 in (o.funs, o.codes, said_code _ _ _ _ _ _ (sym c.s-in-Fun-1.given.1 ∙ c.read_line-s.ensures))

@@ -1,4 +1,3 @@
-use Rattle.file_read.proofs.take_line.Goals as goal
 -- The line that lacks its LF, or what its turn comes to. Assumes nothing.
 use mathlib.Core.Path.{refl, ap}
 use native.Mathlib.Omega.{arith}
@@ -6,8 +5,7 @@ use Rattle.file_read.specs.declared.Reading.{Reading}
 use Rattle.file_read.proofs.Lines.{line_within}
 use Rattle.file_read.proofs.Turns.{still_good, stands_cut, stands_on, further}
 use borrow.Author.Rules.{rules}
-use Rattle.file_read.proofs.take_line.Statement.{statement}
-use Rattle.file_read.proofs.take_line.Tie as tie
+use Rattle.file_read.proofs.take_line.Goals as goal
 
 pub returns-then-e-file : goal.returns-then-e-file
 returns-then-e-file c = let pre = c.requires in (λ ls fs i. stands_cut _ _ _ _ _ _ _ i pre.0 pre.1 _ _ c.line_at-here.ensures c.if-e-file.true _ refl, omega arith)

@@ -1,10 +1,8 @@
-use Rattle.trace.proofs.trace.Goals as goal
 -- Too long, or written. Assumes nothing.
 use native.Mathlib.Omega.{arith}
 use Rattle.trace.proofs.Answers.{known, too_long, written_out}
 use borrow.Author.Rules.{rules}
-use Rattle.trace.proofs.trace.Statement.{statement}
-use Rattle.trace.proofs.trace.Tie as tie
+use Rattle.trace.proofs.trace.Goals as goal
 
 pub trace_length-length-requires : goal.trace_length-length-requires
 trace_length-length-requires c = known c.requires

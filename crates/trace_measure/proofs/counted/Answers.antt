@@ -1,10 +1,8 @@
-use Rattle.trace_measure.proofs.counted.Goals as goal
 -- One step counted in. Assumes nothing.
 use Rattle.trace_replay.specs.Keys.{key_of}
 use Rattle.trace_measure.proofs.Tallies.{countable_here, countable_lost, countable_most}
 use borrow.Author.Rules.{rules}
-use Rattle.trace_measure.proofs.counted.Statement.{statement}
-use Rattle.trace_measure.proofs.counted.Tie as tie
+use Rattle.trace_measure.proofs.counted.Goals as goal
 
 pub stepped-packet-requires : goal.stepped-packet-requires
 stepped-packet-requires c = (c.requires.0, countable_here _ c.requires.0 (key_of c.args.key) c.args.t c.requires.1)

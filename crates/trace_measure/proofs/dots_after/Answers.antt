@@ -1,10 +1,8 @@
-use Rattle.trace_measure.proofs.dots_after.Goals as goal
 -- By the kind: what goes was there, what comes is counted. Assumes nothing.
 use native.Mathlib.Omega.{arith}
 use Rattle.trace_measure.proofs.Dots.{by_conv, by_wrap, by_unwrap}
 use borrow.Author.Rules.{rules}
-use Rattle.trace_measure.proofs.dots_after.Statement.{statement}
-use Rattle.trace_measure.proofs.dots_after.Tie as tie
+use Rattle.trace_measure.proofs.dots_after.Goals as goal
 
 pub overflow_sub-result : goal.overflow_sub-result
 overflow_sub-result c = omega (arith, by_conv c.args.key c.if-kind-eq0.true, c.requires, c.width.ensures)

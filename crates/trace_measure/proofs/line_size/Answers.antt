@@ -1,11 +1,9 @@
-use Rattle.trace_measure.proofs.line_size.Goals as goal
 -- The sizes of a step line's fields, added up. Assumes nothing.
 use native.Mathlib.Omega.{arith}
 use Rattle.trace_replay.specs.Keys.{key_of}
 use Rattle.trace_measure.specs.Sizes.{line_size}
 use borrow.Author.Rules.{rules}
-use Rattle.trace_measure.proofs.line_size.Statement.{statement}
-use Rattle.trace_measure.proofs.line_size.Tie as tie
+use Rattle.trace_measure.proofs.line_size.Goals as goal
 
 pub returns : goal.returns
 unfolding key_of line_size

@@ -1,10 +1,8 @@
-use Rattle.trace_measure.proofs.trace_length.Goals as goal
 -- The path line, then the step lines. Assumes nothing.
 use native.Mathlib.Omega.{arith}
 use Rattle.trace_measure.proofs.Tallies.{total_most, whole}
 use borrow.Author.Rules.{rules}
-use Rattle.trace_measure.proofs.trace_length.Statement.{statement}
-use Rattle.trace_measure.proofs.trace_length.Tie as tie
+use Rattle.trace_measure.proofs.trace_length.Goals as goal
 
 pub overflow_add-result : goal.overflow_add-result
 overflow_add-result c = omega (arith, c.steps_size.ensures, total_most c.requires, c.width.ensures, c.width-2.ensures)

@@ -1,12 +1,10 @@
-use Rattle.trace_measure.proofs.word_size.Goals as goal
 -- By the kind. Assumes nothing.
 use borrow.Author.Rules.{rules}
 use Rattle.paper.specs.Text.{conv_word, wrap_word, unwrap_word}
 use Rattle.paper.specs.Normal.{kind_word}
 use Rattle.network_records.specs.Columns.{kind_of_code}
 use Rattle.trace_stack.proofs.Cells.{kind_other}
-use Rattle.trace_measure.proofs.word_size.Statement.{statement}
-use Rattle.trace_measure.proofs.word_size.Tie as tie
+use Rattle.trace_measure.proofs.word_size.Goals as goal
 
 pub returns-then-kind-eq0 : goal.returns-then-kind-eq0
 unfolding kind_of_code kind_word conv_word

@@ -1,11 +1,9 @@
-use Rattle.trace_stack.proofs.cell_of.Goals as goal
 -- By the kind. Assumes nothing.
 use borrow.Author.Rules.{rules}
 use Rattle.network_records.specs.Columns.{kind_of_code}
 use Rattle.trace_stack.specs.Items.{cell_of}
 use Rattle.trace_stack.proofs.Cells.{cell_else}
-use Rattle.trace_stack.proofs.cell_of.Statement.{statement}
-use Rattle.trace_stack.proofs.cell_of.Tie as tie
+use Rattle.trace_stack.proofs.cell_of.Goals as goal
 
 pub returns-then-kind-ne1 : goal.returns-then-kind-ne1
 returns-then-kind-ne1 c = cell_else c.args.kind c.args.above c.if-kind-ne1.true

@@ -1,11 +1,9 @@
-use Rattle.trace_stack.proofs.height_after.Goals as goal
 -- By the kind. Assumes nothing.
 use borrow.Author.Rules.{rules}
 use Rattle.network_records.specs.Columns.{kind_of_code}
 use Rattle.trace_stack.proofs.Cells.{kind_other}
 use Rattle.trace_stack.specs.Items.{height_after}
-use Rattle.trace_stack.proofs.height_after.Statement.{statement}
-use Rattle.trace_stack.proofs.height_after.Tie as tie
+use Rattle.trace_stack.proofs.height_after.Goals as goal
 
 pub returns-then-kind-eq0 : goal.returns-then-kind-eq0
 unfolding kind_of_code height_after

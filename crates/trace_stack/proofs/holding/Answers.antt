@@ -1,10 +1,8 @@
-use Rattle.trace_stack.proofs.holding.Goals as goal
 -- One cell is stored. Assumes nothing.
 use mathlib.Core.Path.{refl}
 use Rattle.trace_stack.specs.Items.{items, below}
 use borrow.Author.Rules.{rules}
-use Rattle.trace_stack.proofs.holding.Statement.{statement}
-use Rattle.trace_stack.proofs.holding.Tie as tie
+use Rattle.trace_stack.proofs.holding.Goals as goal
 
 pub returns : goal.returns
 unfolding items below

@@ -1,10 +1,8 @@
-use Rattle.trace_stepline.proofs.put_cell.Goals as goal
 -- With a dot before it or without. Assumes nothing.
 use Rattle.digits.proofs.Writing.{then}
 use Rattle.trace_stepline.proofs.Dotted.{cell_lowest, cell_above}
 use borrow.Author.Rules.{rules}
-use Rattle.trace_stepline.proofs.put_cell.Statement.{statement}
-use Rattle.trace_stepline.proofs.put_cell.Tie as tie
+use Rattle.trace_stepline.proofs.put_cell.Goals as goal
 
 pub put_number-requires : goal.put_number-requires
 put_number-requires c = rw (cell_lowest c.args.h c.args.n c.if-h-eq0.true) at c.requires

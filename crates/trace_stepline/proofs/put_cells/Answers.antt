@@ -1,4 +1,3 @@
-use Rattle.trace_stepline.proofs.put_cells.Goals as goal
 -- The loop keeps: the text of the lowest h cells is written. Assumes nothing.
 use Rattle.trace_stepline.proofs.Pieces.{put_size}
 use Rattle.trace_stepline.proofs.Dotted.{cell_fits, cell_put, all_cells, no_cells}
@@ -7,8 +6,7 @@ use Prim.Native.Nat.{◌-◌, ◌≤◌}
 use Rattle.paper.specs.Trace.{dotted}
 use Rattle.digits.specs.Write.{Put}
 use Rattle.trace_stack.specs.Items.{below}
-use Rattle.trace_stepline.proofs.put_cells.Statement.{statement}
-use Rattle.trace_stepline.proofs.put_cells.Tie as tie
+use Rattle.trace_stepline.proofs.put_cells.Goals as goal
 
 pub loop-h-init : goal.loop-h-init
 loop-h-init c = let a = c.args in (search rules, no_cells a.cells.now a.out.now a.at)

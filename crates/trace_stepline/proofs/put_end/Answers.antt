@@ -1,4 +1,3 @@
-use Rattle.trace_stepline.proofs.put_end.Goals as goal
 -- Two fields and the LF, one piece after another. Assumes nothing.
 use native.Mathlib.Omega.{arith}
 use Rattle.trace_stack.specs.Items.{below}
@@ -6,8 +5,7 @@ use Rattle.trace_replay.specs.Packet.{whereabouts}
 use Rattle.trace_stepline.specs.Texts.{end_text}
 use Rattle.trace_stepline.proofs.Pieces.{begin, fits, go_on, ended, end_pieces}
 use borrow.Author.Rules.{rules}
-use Rattle.trace_stepline.proofs.put_end.Statement.{statement}
-use Rattle.trace_stepline.proofs.put_end.Tie as tie
+use Rattle.trace_stepline.proofs.put_end.Goals as goal
 
 pub put_field-i-requires : goal.put_field-i-requires
 unfolding end_text whereabouts

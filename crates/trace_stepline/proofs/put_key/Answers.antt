@@ -1,12 +1,10 @@
-use Rattle.trace_stepline.proofs.put_key.Goals as goal
 -- The word and four fields, one piece after another. Assumes nothing.
 use Rattle.paper.specs.Text.{step_word}
 use Rattle.trace_replay.specs.Keys.{key_of}
 use Rattle.trace_stepline.specs.Texts.{key_text}
 use Rattle.trace_stepline.proofs.Pieces.{begin, fits, go_on, ended, key_pieces}
 use borrow.Author.Rules.{rules}
-use Rattle.trace_stepline.proofs.put_key.Statement.{statement}
-use Rattle.trace_stepline.proofs.put_key.Tie as tie
+use Rattle.trace_stepline.proofs.put_key.Goals as goal
 
 pub put_word-i-requires : goal.put_word-i-requires
 unfolding key_text key_of step_word

@@ -1,9 +1,7 @@
-use Rattle.trace_stepline.proofs.put_stack.Goals as goal
 -- A tab, then the cells. Assumes nothing.
 use Rattle.digits.proofs.Writing.{then}
 use borrow.Author.Rules.{rules}
-use Rattle.trace_stepline.proofs.put_stack.Statement.{statement}
-use Rattle.trace_stepline.proofs.put_stack.Tie as tie
+use Rattle.trace_stepline.proofs.put_stack.Goals as goal
 
 pub returns : goal.returns
 returns c = then c.put_byte-i.ensures c.put_cells.ensures

@@ -1,4 +1,3 @@
-use Rattle.trace_stepline.proofs.put_step.Goals as goal
 -- The key, then the rest. Assumes nothing.
 use mathlib.Core.List.{[], ◌∷◌}
 use Rattle.trace_replay.specs.Keys.{key_of}
@@ -6,8 +5,7 @@ use Rattle.trace_replay.specs.Packet.{whereabouts}
 use Rattle.trace_stepline.specs.Texts.{key_text, end_text}
 use Rattle.trace_stepline.proofs.Pieces.{begin, fits, go_on, ended, two_parts}
 use borrow.Author.Rules.{rules}
-use Rattle.trace_stepline.proofs.put_step.Statement.{statement}
-use Rattle.trace_stepline.proofs.put_step.Tie as tie
+use Rattle.trace_stepline.proofs.put_step.Goals as goal
 
 pub put_key-i-requires : goal.put_key-i-requires
 put_key-i-requires c = let a = c.args in fits (begin a.out.now a.at (key_text (key_of a.key) ∷ end_text (whereabouts a.p a.cells.now) ∷ [])) (rw (two_parts (key_of a.key) (whereabouts a.p a.cells.now)) at c.requires.1)

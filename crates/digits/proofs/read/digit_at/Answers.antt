@@ -1,9 +1,7 @@
-use Rattle.digits.proofs.read.digit_at.Goals as goal
 -- A byte below 48 or above 57 is no digit. Assumes nothing.
 use Rattle.digits.proofs.Reading.{digit_low, digit_high, digit_in}
 use borrow.Author.Rules.{rules}
-use Rattle.digits.proofs.read.digit_at.Statement.{statement}
-use Rattle.digits.proofs.read.digit_at.Tie as tie
+use Rattle.digits.proofs.read.digit_at.Goals as goal
 
 pub returns-then-b-lt48 : goal.returns-then-b-lt48
 returns-then-b-lt48 c = digit_low _ c.if-b-lt48.true

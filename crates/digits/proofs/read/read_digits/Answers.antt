@@ -1,4 +1,3 @@
-use Rattle.digits.proofs.read.read_digits.Goals as goal
 -- The loop keeps: what is told of all digits is what is told of those from i on, read on from v. Assumes nothing.
 use mathlib.Core.Path.{◌≡◌, sym, ◌∙◌}
 use Prim.Native.Nat.{◌≤◌, ◌-◌}
@@ -6,8 +5,7 @@ use native.Mathlib.Omega.{arith}
 use Rattle.digits.specs.Read.{part, told_from}
 use Rattle.digits.proofs.Reading.{told_more, told_stop, told_all}
 use borrow.Author.Rules.{rules}
-use Rattle.digits.proofs.read.read_digits.Statement.{statement}
-use Rattle.digits.proofs.read.read_digits.Tie as tie
+use Rattle.digits.proofs.read.read_digits.Goals as goal
 
 pub returns-then-d-gt9 : goal.returns-then-d-gt9
 returns-then-d-gt9 c = let l = c.loop-i in sym (l.invariant.3 ∙ told_stop _ l.i _ l.v _ c.loop-i-test.true c.requires.1 c.digit_at-d.ensures c.if-d-gt9.true)

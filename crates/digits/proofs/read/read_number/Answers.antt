@@ -1,11 +1,9 @@
-use Rattle.digits.proofs.read.read_number.Goals as goal
 -- No byte, a zero alone, a zero with more behind it, or any other first byte. Assumes nothing.
 use mathlib.Core.Path.{sym, ◌∙◌}
 use native.Mathlib.Omega.{arith}
 use Rattle.digits.proofs.Reading.{told_none, told_zero, told_leading, told_plain}
 use borrow.Author.Rules.{rules}
-use Rattle.digits.proofs.read.read_number.Statement.{statement}
-use Rattle.digits.proofs.read.read_number.Tie as tie
+use Rattle.digits.proofs.read.read_number.Goals as goal
 
 pub returns-then-s-t : goal.returns-then-s-t
 returns-then-s-t c = sym (told_none _ _ _ c.if-s-t.true)

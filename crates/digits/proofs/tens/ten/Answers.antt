@@ -1,4 +1,3 @@
-use Rattle.digits.proofs.tens.ten.Goals as goal
 -- The table's rule is a test at each of its ten entries, which antt computes. Assumes nothing.
 use mathlib.Core.List.{List, [], ◌∷◌}
 use mathlib.Core.Bool.{Bool}
@@ -7,8 +6,7 @@ use lib.Dec.{eqb, eqb→eq}
 use lib.ListN.{get_or}
 use Rattle.digits.proofs.Table.{at}
 use borrow.Author.Rules.{rules}
-use Rattle.digits.proofs.tens.ten.Statement.{statement}
-use Rattle.digits.proofs.tens.ten.Tie as tie
+use Rattle.digits.proofs.tens.ten.Goals as goal
 
 tens : List ℕ
 tens = 1 ∷ 10 ∷ 100 ∷ 1000 ∷ 10000 ∷ 100000 ∷ 1000000 ∷ 10000000 ∷ 100000000 ∷ 1000000000 ∷ []

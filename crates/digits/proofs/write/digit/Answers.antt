@@ -1,10 +1,8 @@
-use Rattle.digits.proofs.write.digit.Goals as goal
 -- The power of ten comes from the table. Assumes nothing.
 use Rattle.digits.proofs.Digits.{ten_power_pos}
 use Rattle.digits.specs.Write.{digit_byte}
 use borrow.Author.Rules.{rules}
-use Rattle.digits.proofs.write.digit.Statement.{statement}
-use Rattle.digits.proofs.write.digit.Tie as tie
+use Rattle.digits.proofs.write.digit.Goals as goal
 
 pub nonzero_div-result : goal.nonzero_div-result
 nonzero_div-result c = rw c.ten.ensures (ten_power_pos c.args.k)

@@ -1,9 +1,7 @@
-use Rattle.digits.proofs.write.put_byte.Goals as goal
 -- A store is a text of one byte. Assumes nothing.
 use Rattle.digits.proofs.Writing.{byte_put}
 use borrow.Author.Rules.{rules}
-use Rattle.digits.proofs.write.put_byte.Statement.{statement}
-use Rattle.digits.proofs.write.put_byte.Tie as tie
+use Rattle.digits.proofs.write.put_byte.Goals as goal
 
 pub returns : goal.returns
 returns c = byte_put _ _ _

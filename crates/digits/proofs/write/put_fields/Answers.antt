@@ -1,4 +1,3 @@
-use Rattle.digits.proofs.write.put_fields.Goals as goal
 -- The loop keeps: the numbers from the one at k on are left to write. Assumes nothing.
 use borrow.Author.Rules.{rules}
 use Prim.Native.Nat.{◌≤◌, ◌-◌}
@@ -8,8 +7,7 @@ use lib.ListN.{length, drop}
 use Rattle.paper.specs.Text.{decimal, tabbed}
 use Rattle.digits.specs.Write.{Left}
 use Rattle.digits.proofs.Writing.{whole_left, field_left, fields_put, field_room}
-use Rattle.digits.proofs.write.put_fields.Statement.{statement}
-use Rattle.digits.proofs.write.put_fields.Tie as tie
+use Rattle.digits.proofs.write.put_fields.Goals as goal
 
 pub loop-k-init : goal.loop-k-init
 loop-k-init c = let a = c.args in (search rules, whole_left a.out.now a.at (tabbed (map decimal a.numbers.now)))

@@ -1,9 +1,7 @@
-use Rattle.digits.proofs.write.put_kind.Goals as goal
 -- Three kinds, three words. Assumes nothing.
 use Rattle.digits.proofs.Words.{conv_is, wrap_is, unwrap_is}
 use borrow.Author.Rules.{rules}
-use Rattle.digits.proofs.write.put_kind.Statement.{statement}
-use Rattle.digits.proofs.write.put_kind.Tie as tie
+use Rattle.digits.proofs.write.put_kind.Goals as goal
 
 pub put_word_field-requires : goal.put_word_field-requires
 put_word_field-requires c = rw (conv_is _ c.if-k-eq0.true) at c.requires

@@ -1,4 +1,3 @@
-use Rattle.digits.proofs.write.put_number.Goals as goal
 -- The loop keeps: the last k digits of n are left to write. Assumes nothing.
 use borrow.Author.Rules.{rules}
 use Prim.Native.Nat.{◌≤◌}
@@ -7,8 +6,7 @@ use Rattle.paper.specs.Text.{decimal}
 use Rattle.digits.specs.Write.{Left, last_digits}
 use Rattle.digits.proofs.Digits.{length_digits}
 use Rattle.digits.proofs.Writing.{number_left, digit_left, number_put}
-use Rattle.digits.proofs.write.put_number.Statement.{statement}
-use Rattle.digits.proofs.write.put_number.Tie as tie
+use Rattle.digits.proofs.write.put_number.Goals as goal
 
 pub loop-k-init : goal.loop-k-init
 loop-k-init c = let a = c.args in (search rules, number_left a.out.now a.at a.n c.width-k.result c.width-k.ensures.value)

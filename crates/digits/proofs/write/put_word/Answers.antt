@@ -1,4 +1,3 @@
-use Rattle.digits.proofs.write.put_word.Goals as goal
 -- The loop keeps: the word from its byte k on is left to write. Assumes nothing.
 use borrow.Author.Rules.{rules}
 use Prim.Native.Nat.{◌≤◌, ◌-◌}
@@ -6,8 +5,7 @@ use native.Mathlib.Omega.{arith}
 use lib.ListN.{length, drop, length-drop}
 use Rattle.digits.specs.Write.{Left}
 use Rattle.digits.proofs.Writing.{whole_left, byte_left, word_put}
-use Rattle.digits.proofs.write.put_word.Statement.{statement}
-use Rattle.digits.proofs.write.put_word.Tie as tie
+use Rattle.digits.proofs.write.put_word.Goals as goal
 
 pub loop-k-init : goal.loop-k-init
 loop-k-init c = let a = c.args in (search rules, whole_left a.out.now a.at a.word.now)

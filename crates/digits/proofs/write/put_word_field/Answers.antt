@@ -1,9 +1,7 @@
-use Rattle.digits.proofs.write.put_word_field.Goals as goal
 -- A tab, then a word. Assumes nothing.
 use Rattle.digits.proofs.Writing.{then}
 use borrow.Author.Rules.{rules}
-use Rattle.digits.proofs.write.put_word_field.Statement.{statement}
-use Rattle.digits.proofs.write.put_word_field.Tie as tie
+use Rattle.digits.proofs.write.put_word_field.Goals as goal
 
 pub returns : goal.returns
 returns c = then c.put_byte-i.ensures c.put_word.ensures

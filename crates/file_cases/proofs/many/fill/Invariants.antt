@@ -1,3 +1,8 @@
+-- The loop keeps: the room is as long as it was. Assumes nothing.
+use borrow.Author.Rules.{rules}
+use mathlib.Core.Path.{◌≡◌}
+use Prim.Native.Nat.{◌-◌}
+use lib.ListN.{length}
 use Rattle.file_cases.proofs.many.fill.Given as goal
 
 abbrev pub invariant-loop-i : goal.invariant-loop-i

@@ -1,3 +1,8 @@
+-- The loop keeps: e is within the room, which is as long as it was. Assumes nothing.
+use borrow.Author.Rules.{rules}
+use mathlib.Core.Path.{◌≡◌}
+use Prim.Native.Nat.{◌≤◌}
+use lib.ListN.{length}
 use Rattle.file_cases.proofs.many.links.Given as goal
 
 abbrev pub invariant-loop-i : goal.invariant-loop-i

@@ -1,10 +1,8 @@
-use Rattle.file_normal.proofs.file.normal_in.Goals as goal
 -- Refused as the reader says, refused for the room, or written. Assumes nothing.
 use native.Mathlib.Omega.{arith}
 use Rattle.file_normal.proofs.Answers.{answer_refused, answer_long, room_enough, answer_written}
 use borrow.Author.Rules.{rules}
-use Rattle.file_normal.proofs.file.normal_in.Statement.{statement}
-use Rattle.file_normal.proofs.file.normal_in.Tie as tie
+use Rattle.file_normal.proofs.file.normal_in.Goals as goal
 
 pub returns-then-j-ne0 : goal.returns-then-j-ne0
 returns-then-j-ne0 c = let r = c.read-j in answer_refused _ c.args.text.now r.result.number r.result.line _ r.ensures.judged c.if-j-ne0.true

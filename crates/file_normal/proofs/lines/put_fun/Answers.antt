@@ -1,11 +1,9 @@
-use Rattle.file_normal.proofs.lines.put_fun.Goals as goal
 -- The word, the node, the kind word, three numbers of the room and the LF fill the line. Assumes nothing.
 use native.Mathlib.Omega.{arith}
 use Rattle.digits.proofs.Writing.{then}
 use Rattle.file_normal.proofs.Parts.{fun_parts, fun_length}
 use borrow.Author.Rules.{rules}
-use Rattle.file_normal.proofs.lines.put_fun.Statement.{statement}
-use Rattle.file_normal.proofs.lines.put_fun.Tie as tie
+use Rattle.file_normal.proofs.lines.put_fun.Goals as goal
 
 pub put_word-at-requires : goal.put_word-at-requires
 put_word-at-requires c = omega (arith, fun_length c.args.funs.now c.args.j c.requires.0)

@@ -1,4 +1,3 @@
-use Rattle.file_normal.proofs.lines.put_funs.Goals as goal
 -- The loop keeps: the lines of the functions from j on are left to write. Assumes nothing.
 use borrow.Author.Rules.{rules}
 use Prim.Native.Nat.{◌≤◌, ◌-◌}
@@ -7,8 +6,7 @@ use Rattle.paper.specs.Normal.{fun_text, texts}
 use Rattle.network_records.specs.Columns.{fun_at, rows, fun_rows}
 use Rattle.digits.specs.Write.{Left}
 use Rattle.file_normal.proofs.Rows.{all_left, row_room, row_left, rows_put}
-use Rattle.file_normal.proofs.lines.put_funs.Statement.{statement}
-use Rattle.file_normal.proofs.lines.put_funs.Tie as tie
+use Rattle.file_normal.proofs.lines.put_funs.Goals as goal
 
 pub loop-j-init : goal.loop-j-init
 unfolding fun_rows

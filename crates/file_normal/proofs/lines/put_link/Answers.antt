@@ -1,11 +1,9 @@
-use Rattle.file_normal.proofs.lines.put_link.Goals as goal
 -- The word, four numbers of the room and the LF fill the line. Assumes nothing.
 use native.Mathlib.Omega.{arith}
 use Rattle.digits.proofs.Writing.{then}
 use Rattle.file_normal.proofs.Parts.{link_parts, link_length}
 use borrow.Author.Rules.{rules}
-use Rattle.file_normal.proofs.lines.put_link.Statement.{statement}
-use Rattle.file_normal.proofs.lines.put_link.Tie as tie
+use Rattle.file_normal.proofs.lines.put_link.Goals as goal
 
 pub put_word-at-requires : goal.put_word-at-requires
 put_word-at-requires c = omega (arith, link_length c.args.links.now c.args.i c.requires.0)

@@ -1,4 +1,3 @@
-use Rattle.file_normal.proofs.lines.put_links.Goals as goal
 -- The loop keeps: the lines of the links from i on are left to write. Assumes nothing.
 use borrow.Author.Rules.{rules}
 use Prim.Native.Nat.{◌≤◌, ◌-◌}
@@ -7,8 +6,7 @@ use Rattle.paper.specs.Normal.{link_text, texts}
 use Rattle.network_records.specs.Columns.{link_at, rows, link_rows}
 use Rattle.digits.specs.Write.{Left}
 use Rattle.file_normal.proofs.Rows.{all_left, row_room, row_left, rows_put}
-use Rattle.file_normal.proofs.lines.put_links.Statement.{statement}
-use Rattle.file_normal.proofs.lines.put_links.Tie as tie
+use Rattle.file_normal.proofs.lines.put_links.Goals as goal
 
 pub loop-i-init : goal.loop-i-init
 unfolding link_rows

@@ -1,11 +1,9 @@
-use Rattle.file_normal.proofs.lines.put_net.Goals as goal
 -- The word, two fields and the LF fill the net line. Assumes nothing.
 use native.Mathlib.Omega.{arith}
 use Rattle.digits.proofs.Writing.{then}
 use Rattle.file_normal.proofs.Parts.{net_parts, net_length}
 use borrow.Author.Rules.{rules}
-use Rattle.file_normal.proofs.lines.put_net.Statement.{statement}
-use Rattle.file_normal.proofs.lines.put_net.Tie as tie
+use Rattle.file_normal.proofs.lines.put_net.Goals as goal
 
 pub put_word-i-requires : goal.put_word-i-requires
 put_word-i-requires c = let a = c.args in omega (arith, net_length a.n a.p)

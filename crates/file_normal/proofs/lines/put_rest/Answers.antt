@@ -1,12 +1,10 @@
-use Rattle.file_normal.proofs.lines.put_rest.Goals as goal
 -- The fields, then the LF. Assumes nothing.
 use native.Mathlib.Omega.{arith}
 use Rattle.digits.proofs.Writing.{then}
 use Rattle.file_normal.specs.Line.{last_fields}
 use Rattle.file_normal.proofs.Parts.{rest_length}
 use borrow.Author.Rules.{rules}
-use Rattle.file_normal.proofs.lines.put_rest.Statement.{statement}
-use Rattle.file_normal.proofs.lines.put_rest.Tie as tie
+use Rattle.file_normal.proofs.lines.put_rest.Goals as goal
 
 pub put_fields-i-requires : goal.put_fields-i-requires
 put_fields-i-requires c = let a = c.args in omega (arith, rest_length a.room.now a.a a.e)

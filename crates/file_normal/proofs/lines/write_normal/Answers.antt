@@ -1,10 +1,8 @@
-use Rattle.file_normal.proofs.lines.write_normal.Goals as goal
 -- The net line, the links and the functions, one after another, are the normal file. Assumes nothing.
 use native.Mathlib.Omega.{arith}
 use Rattle.file_normal.proofs.Parts.{file_length, file_put}
 use borrow.Author.Rules.{rules}
-use Rattle.file_normal.proofs.lines.write_normal.Statement.{statement}
-use Rattle.file_normal.proofs.lines.write_normal.Tie as tie
+use Rattle.file_normal.proofs.lines.write_normal.Goals as goal
 
 pub put_net-i-requires : goal.put_net-i-requires
 put_net-i-requires c = let a = c.args in omega (arith, file_length a.z a.links.now a.funs.now)

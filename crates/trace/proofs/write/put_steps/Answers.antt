@@ -1,9 +1,7 @@
-use Rattle.trace.proofs.write.put_steps.Goals as goal
 -- The stack and the packet at the start, then the lines. Assumes nothing.
 use Rattle.trace.proofs.Replays.{same_lines, start_out}
 use borrow.Author.Rules.{rules}
-use Rattle.trace.proofs.write.put_steps.Statement.{statement}
-use Rattle.trace.proofs.write.put_steps.Tie as tie
+use Rattle.trace.proofs.write.put_steps.Goals as goal
 
 pub put_lines-requires : goal.put_lines-requires
 put_lines-requires c = start_out c.requires.route c.args.out.now c.args.place c.holding-first.result c.begin.result c.holding-first.ensures c.begin.ensures c.requires.start_in_bounds

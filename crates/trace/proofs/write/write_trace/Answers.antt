@@ -1,14 +1,10 @@
-
-use Rattle.trace.proofs.write.write_trace.Goals as goal
-
 -- The path line, then the step lines. Assumes nothing.
 use native.Mathlib.Omega.{arith}
 use Rattle.digits.proofs.Writing.{then}
 use Rattle.trace_stepline.proofs.Pieces.{put_size}
 use Rattle.trace.proofs.Replays.{trace_parts, trace_room}
 use borrow.Author.Rules.{rules}
-use Rattle.trace.proofs.write.write_trace.Statement.{statement}
-use Rattle.trace.proofs.write.write_trace.Tie as tie
+use Rattle.trace.proofs.write.write_trace.Goals as goal
 
 pub put_path-i-requires : goal.put_path-i-requires
 put_path-i-requires c = (omega (arith, c.requires.route.few), omega (arith, trace_room c.requires.route c.args.weight c.args.text.now c.requires.weight_in_bounds))

@@ -1,4 +1,3 @@
-use Rattle.trace_replay.proofs.hops.fun_of.Goals as goal
 -- The loop keeps: no function before j is the one sought, and function j is the node's, of this kind and for x. Assumes nothing.
 use Prim.Native.Nat.{◌-◌}
 use mathlib.Core.Path.{sym, ◌∙◌}
@@ -9,8 +8,7 @@ use borrow.Author.Tests.{eq-eqb, ne_eqb}
 use Rattle.network.specs.Network.{funs, yOf}
 use Rattle.network.specs.Next.{suits}
 use Rattle.trace_replay.proofs.Finding.{Sought, first, further, here, nowhere}
-use Rattle.trace_replay.proofs.hops.fun_of.Statement.{statement}
-use Rattle.trace_replay.proofs.hops.fun_of.Tie as tie
+use Rattle.trace_replay.proofs.hops.fun_of.Goals as goal
 
 pub loop-j-init : goal.loop-j-init
 loop-j-init c = first _ _ _ _ c.next_fun-j.ensures

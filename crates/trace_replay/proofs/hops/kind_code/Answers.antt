@@ -1,9 +1,7 @@
-use Rattle.trace_replay.proofs.hops.kind_code.Goals as goal
 -- By the kind. Assumes nothing.
 use Rattle.network_records.specs.Columns.{kind_of_code}
 use Rattle.trace_stack.proofs.Cells.{kind_other}
-use Rattle.trace_replay.proofs.hops.kind_code.Statement.{statement}
-use Rattle.trace_replay.proofs.hops.kind_code.Tie as tie
+use Rattle.trace_replay.proofs.hops.kind_code.Goals as goal
 
 pub returns-then-kind-eq0 : goal.returns-then-kind-eq0
 unfolding kind_of_code

@@ -1,4 +1,3 @@
-use Rattle.trace_replay.proofs.hops.link_of.Goals as goal
 -- The loop keeps: no link before i is the one sought, and link i leaves the node. Assumes nothing.
 use Prim.Native.Nat.{◌-◌}
 use mathlib.Core.Path.{sym, ◌∙◌}
@@ -9,8 +8,7 @@ use borrow.Author.Tests.{eq-eqb, ne_eqb}
 use Rattle.network.specs.Network.{links, number}
 use Rattle.network.specs.Next.{leaves}
 use Rattle.trace_replay.proofs.Finding.{Sought, first, further, here, nowhere}
-use Rattle.trace_replay.proofs.hops.link_of.Statement.{statement}
-use Rattle.trace_replay.proofs.hops.link_of.Tie as tie
+use Rattle.trace_replay.proofs.hops.link_of.Goals as goal
 
 pub loop-i-init : goal.loop-i-init
 loop-i-init c = first _ _ _ _ c.next_link-i.ensures

@@ -1,11 +1,9 @@
-use Rattle.trace_replay.proofs.packet.stepped.Goals as goal
 -- The step leads nowhere, or to a node. Assumes nothing.
 use mathlib.Core.Path.{sym, ap, ◌∙◌}
 use borrow.Author.Rules.{rules}
 use Rattle.trace_replay.specs.Hops.{hopped}
 use Rattle.trace_replay.proofs.Ways.{stays, arrives}
-use Rattle.trace_replay.proofs.packet.stepped.Statement.{statement}
-use Rattle.trace_replay.proofs.packet.stepped.Tie as tie
+use Rattle.trace_replay.proofs.packet.stepped.Goals as goal
 
 pub returns-in-Nowhere : goal.returns-in-Nowhere
 returns-in-Nowhere c = stays _ c.args.key c.args.p (ap hopped (sym c.enum_told-1.given.1) ∙ c.hop-to.ensures)
