@@ -68,7 +68,7 @@ module _ {home start : ℕ → ℕ} {n c : ℕ} (o : Grouped home start n c) whe
 
     pub walk_on : (k : ℕ) → Walked start test i v k → test k ≡ false → Walked start test i v (k + 1)
     walk_on k w f =
-        record { from_here = omega (arith, w.from-here); past_start = omega (arith, w.past-start); none_before = λ j g l. go j g l (dec_lt j k) }
+        record { from_here = omega (arith, w.from_here); past_start = omega (arith, w.past_start); none_before = λ j g l. go j g l (dec_lt j k) }
       where
         go : (j : ℕ) → i ≤ j → j < k + 1 → Dec (j < k) → test j ≡ false
         go j g l (yes m) = w.none_before j g m
@@ -77,7 +77,7 @@ module _ {home start : ℕ → ℕ} {n c : ℕ} (o : Grouped home start n c) whe
     pub walk_found : (k : ℕ) → Walked start test i v k → k < start (suc v) → test k ≡ true → Next test c i k
     walk_found k w l e =
         record {
-          from_here = w.from-here;
+          from_here = w.from_here;
           at_most = omega (arith, starts_end (suc v) (omega arith));
           none_before = w.none_before;
           holds = λ h. e;
@@ -93,4 +93,4 @@ module _ {home start : ℕ → ℕ} {n c : ℕ} (o : Grouped home start n c) whe
 
     -- v's own record k, from `start v` on
     pub home_is : (k : ℕ) → Walked start test i v k → k < start (suc v) → home k ≡ v
-    home_is k w l = o.mine v k of_node w.past-start l
+    home_is k w l = o.mine v k of_node w.past_start l

@@ -19,4 +19,4 @@ returns c =
     let g = c.lay_funs.new.1.1.0 in
     let laid = arranged_so _ _ _ c.args.net.now _ _ g (links_groupable _ _ _ p.0) (omega arith) c.head.ensures c.lay_links.ensures c.lay_funs.ensures in
     let room : room_size ≤ length g = search rules in
-    record { laid = laid; arranged = (arranged _ _ _ p.0 g room laid, leads _ _ _ p.0 g room laid); }
+    record { laid = laid; arranged = arranged _ _ _ p.0 g room laid; leads = leads _ _ _ p.0 g room laid }

@@ -18,4 +18,4 @@ pub returns : goal.returns
 returns c =
     let a = c.args in
     let put = then (then (then c.put_word-i.ensures c.put_field-i.ensures) c.put_field-i-2.ensures) c.put_byte.ensures in
-    record { put = rw (reply_parts a.word.now a.number a.line) put; upper_bound = omega (arith, c.put_word-i.ensures.next, c.put_field-i.ensures.next, c.put_field-i-2.ensures.next, c.put_byte.ensures.next, decimal_most a.number, decimal_most a.line, c.requires); }
+    record { put = rw (reply_parts a.word.now a.number a.line) put; upper_bound = omega (arith, c.put_word-i.ensures.next, c.put_field-i.ensures.next, c.put_field-i-2.ensures.next, c.put_byte.ensures.next, decimal_most a.number, decimal_most a.line, c.requires) }

@@ -8,4 +8,4 @@ clear_choice-requires c = (search rules, rw c.places.ensures.0 c.requires.choice
 pub returns : goal.returns
 returns c =
     let f = c.settle.ensures in
-    record { tabled = tabled _ _ _ _ _ _ _ f (rw c.places.ensures.0 at c.clear_choice.ensures); filled = f; }
+    record { tabled = tabled _ _ _ _ _ _ _ f (rw c.places.ensures.0 at c.clear_choice.ensures); filled = f }

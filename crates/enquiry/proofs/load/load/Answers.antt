@@ -6,9 +6,9 @@ pub returns-then-j-ne0 : goal.returns-then-j-ne0
 returns-then-j-ne0 c = loaded_bad _ _ _ _ _ c.read-j.ensures.judged c.if-j-ne0.true
 
 pub arrange-requires : goal.arrange-requires
-arrange-requires c = (c.read-j.ensures.plain.1.0 c.if-j-ne0.false, search rules)
+arrange-requires c = (c.read-j.ensures.valid c.if-j-ne0.false, search rules)
 
 pub returns : goal.returns
 returns c =
     let a = c.arrange.ensures in
-    loaded_good _ _ _ _ _ _ _ c.read-j.ensures.judged c.if-j-ne0.false a.laid a.arranged.0 a.arranged.1
+    loaded_good _ _ _ _ _ _ _ c.read-j.ensures.judged c.if-j-ne0.false a.laid a.arranged a.leads

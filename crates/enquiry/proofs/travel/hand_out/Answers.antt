@@ -15,7 +15,7 @@ overflow_cast-result c = omega (arith, few _ _ _ _ _ _ _ _ c.requires.1)
 pub returns-then-t : goal.returns-then-t
 returns-then-t c =
     let done = c.«unfold».ensures in
-    record { ends_in = ends_0 _ _ _ _ _ _ _ _ _ _ _ c.requires.1 done _ _ _ c.trace-t.ensures c.if-t.true; choice_after = is_cleared _ _ _ done.choices; }
+    record { ends_in = ends_0 _ _ _ _ _ _ _ _ _ _ _ c.requires.1 done _ _ _ c.trace-t.ensures c.if-t.true; choice_after = is_cleared _ _ _ done.choices }
 
 pub overflow_cast-result-2 : goal.overflow_cast-result-2
 overflow_cast-result-2 c = omega (arith, few _ _ _ _ _ _ _ _ c.requires.1)
@@ -23,4 +23,4 @@ overflow_cast-result-2 c = omega (arith, few _ _ _ _ _ _ _ _ c.requires.1)
 pub returns : goal.returns
 returns c =
     let done = c.«unfold».ensures in
-    record { ends_in = ends_11 _ _ _ _ _ _ _ _ _ _ _ c.requires.1 done _ _ _ c.trace-t.ensures c.if-t.false; choice_after = is_cleared _ _ _ done.choices; }
+    record { ends_in = ends_11 _ _ _ _ _ _ _ _ _ _ _ c.requires.1 done _ _ _ c.trace-t.ensures c.if-t.false; choice_after = is_cleared _ _ _ done.choices }

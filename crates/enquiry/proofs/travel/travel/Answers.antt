@@ -9,20 +9,20 @@ pub returns-then-w : goal.returns-then-w
 returns-then-w c =
     let e = c.pair-at.ensures.0 in
     let w = ap (λ (i : ℕ). get_or c.args.weight.now i 0) e in
-    record { ends_in = ends_8 _ _ _ _ _ _ c.requires.0 c.requires.1 c.requires.2 _ _ w refl _ _ _ c.refusal.ensures c.if-w.true; choice_after = c.requires.0.clear; }
+    record { ends_in = ends_8 _ _ _ _ _ _ c.requires.0 c.requires.1 c.requires.2 _ _ w refl _ _ _ c.refusal.ensures c.if-w.true; choice_after = c.requires.0.clear }
 
 pub returns-then-w-2 : goal.returns-then-w-2
 returns-then-w-2 c =
     let e = c.pair-at.ensures.0 in
     let w = ap (λ (i : ℕ). get_or c.args.weight.now i 0) e in
-    record { ends_in = ends_9 _ _ _ _ _ _ c.requires.0 c.requires.1 c.requires.2 _ _ w refl _ _ _ c.refusal-then-w-2.ensures c.if-w-2.true; choice_after = c.requires.0.clear; }
+    record { ends_in = ends_9 _ _ _ _ _ _ c.requires.0 c.requires.1 c.requires.2 _ _ w refl _ _ _ c.refusal-then-w-2.ensures c.if-w-2.true; choice_after = c.requires.0.clear }
 
 pub returns-then-most-k : goal.returns-then-most-k
 returns-then-most-k c =
     let e = c.pair-at.ensures.0 in
     let w = ap (λ (i : ℕ). get_or c.args.weight.now i 0) e in
     let k = c.entry-k.ensures ∙ ap (λ (i : ℕ). get_or c.args.count.now i 0) e in
-    record { ends_in = ends_10 _ _ _ _ _ _ c.requires.0 c.requires.1 c.requires.2 _ _ w k _ _ _ _ c.refusal-then-most-k.ensures c.if-w.false c.if-w-2.false c.most.ensures c.if-most-k.true; choice_after = c.requires.0.clear; }
+    record { ends_in = ends_10 _ _ _ _ _ _ c.requires.0 c.requires.1 c.requires.2 _ _ w k _ _ _ _ c.refusal-then-most-k.ensures c.if-w.false c.if-w-2.false c.most.ensures c.if-most-k.true; choice_after = c.requires.0.clear }
 
 pub hand_out-requires : goal.hand_out-requires
 hand_out-requires c =

@@ -10,4 +10,4 @@ fun_kind-requires c = fun_in _ _ _ c.requires.0 c.requires.1 c.fun_room.ensures
 pub returns : goal.returns
 returns c =
     let a = c.args in
-    ranged kind (λ k. k < 3) _ _ _ _ c.fun_kind.ensures c.fun_room.ensures (c.requires.0.valid.fun-kind a.j c.requires.1)
+    ranged kind (λ k. k < 3) _ _ _ _ c.fun_kind.ensures c.fun_room.ensures (c.requires.0.valid.fun_kind a.j c.requires.1)

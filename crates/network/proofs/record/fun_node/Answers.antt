@@ -11,4 +11,4 @@ fun_node-requires c = fun_in _ _ _ c.requires.0 c.requires.1 c.fun_room.ensures
 pub returns : goal.returns
 returns c =
     let a = c.args in
-    ranged node (λ k. k < nodes a.net.now) _ _ _ _ c.fun_node.ensures c.fun_room.ensures (c.requires.0.valid.fun-node a.j c.requires.1)
+    ranged node (λ k. k < nodes a.net.now) _ _ _ _ c.fun_node.ensures c.fun_room.ensures (c.requires.0.valid.fun_node a.j c.requires.1)

@@ -10,4 +10,4 @@ fun_weight-requires c = fun_in _ _ _ c.requires.0 c.requires.1 c.fun_room.ensure
 pub returns : goal.returns
 returns c =
     let a = c.args in
-    ranged fee (λ k. k ≤ 1000000000) _ _ _ _ c.fun_weight.ensures c.fun_room.ensures (c.requires.0.valid.fun-weight a.j c.requires.1)
+    ranged fee (λ k. k ≤ 1000000000) _ _ _ _ c.fun_weight.ensures c.fun_room.ensures (c.requires.0.valid.fun_weight a.j c.requires.1)

@@ -11,4 +11,4 @@ fun_x-requires c = fun_in _ _ _ c.requires.0 c.requires.1 c.fun_room.ensures
 pub returns : goal.returns
 returns c =
     let a = c.args in
-    ranged xOf (λ k. k < protocols a.net.now) _ _ _ _ c.fun_x.ensures c.fun_room.ensures (c.requires.0.valid.fun-x a.j c.requires.1)
+    ranged xOf (λ k. k < protocols a.net.now) _ _ _ _ c.fun_x.ensures c.fun_room.ensures (c.requires.0.valid.fun_x a.j c.requires.1)

@@ -11,4 +11,4 @@ fun_y-requires c = fun_in _ _ _ c.requires.0 c.requires.1 c.fun_room.ensures
 pub returns : goal.returns
 returns c =
     let a = c.args in
-    ranged yOf (λ k. k < protocols a.net.now) _ _ _ _ c.fun_y.ensures c.fun_room.ensures (c.requires.0.valid.fun-y a.j c.requires.1)
+    ranged yOf (λ k. k < protocols a.net.now) _ _ _ _ c.fun_y.ensures c.fun_room.ensures (c.requires.0.valid.fun_y a.j c.requires.1)

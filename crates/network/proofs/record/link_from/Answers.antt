@@ -11,4 +11,4 @@ link_from-requires c = link_in _ _ _ c.requires.0 c.requires.1 c.link_room.ensur
 pub returns : goal.returns
 returns c =
     let a = c.args in
-    ranged from (λ k. k < nodes a.net.now) _ _ _ _ c.link_from.ensures c.link_room.ensures (c.requires.0.valid.link-from a.i c.requires.1)
+    ranged from (λ k. k < nodes a.net.now) _ _ _ _ c.link_from.ensures c.link_room.ensures (c.requires.0.valid.link_from a.i c.requires.1)

@@ -10,4 +10,4 @@ link_number-requires c = link_in _ _ _ c.requires.0 c.requires.1 c.link_room.ens
 pub returns : goal.returns
 returns c =
     let a = c.args in
-    ranged number (λ k. k ≤ 65535) _ _ _ _ c.link_number.ensures c.link_room.ensures (c.requires.0.valid.link-number a.i c.requires.1)
+    ranged number (λ k. k ≤ 65535) _ _ _ _ c.link_number.ensures c.link_room.ensures (c.requires.0.valid.link_number a.i c.requires.1)

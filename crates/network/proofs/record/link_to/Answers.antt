@@ -11,4 +11,4 @@ link_to-requires c = link_in _ _ _ c.requires.0 c.requires.1 c.link_room.ensures
 pub returns : goal.returns
 returns c =
     let a = c.args in
-    ranged to (λ k. k < nodes a.net.now) _ _ _ _ c.link_to.ensures c.link_room.ensures (c.requires.0.valid.link-to a.i c.requires.1)
+    ranged to (λ k. k < nodes a.net.now) _ _ _ _ c.link_to.ensures c.link_room.ensures (c.requires.0.valid.link_to a.i c.requires.1)

@@ -10,4 +10,4 @@ link_weight-requires c = link_in _ _ _ c.requires.0 c.requires.1 c.link_room.ens
 pub returns : goal.returns
 returns c =
     let a = c.args in
-    ranged toll (λ k. k ≤ 1000000000) _ _ _ _ c.link_weight.ensures c.link_room.ensures (c.requires.0.valid.link-weight a.i c.requires.1)
+    ranged toll (λ k. k ≤ 1000000000) _ _ _ _ c.link_weight.ensures c.link_room.ensures (c.requires.0.valid.link_weight a.i c.requires.1)

@@ -14,7 +14,7 @@ pub loop-j-init : goal.loop-j-init
 loop-j-init c = (search rules, scan_start _ _ _ (λ k s e. not_served _ _ _ _ _ _ e) _ _ c.next_fun-j.ensures)
 
 pub loop-j-smaller : goal.loop-j-smaller
-loop-j-smaller c = omega (arith, c.next_fun-j-in-loop-j.ensures.from-here)
+loop-j-smaller c = omega (arith, c.next_fun-j-in-loop-j.ensures.from_here)
 
 pub loop-j-preserved : goal.loop-j-preserved
 loop-j-preserved c =

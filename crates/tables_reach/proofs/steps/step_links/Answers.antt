@@ -14,7 +14,7 @@ pub loop-i-init : goal.loop-i-init
 loop-i-init c = (search rules, scan_start _ _ _ (λ k s e. not_crossed _ _ _ _ _ e) _ _ c.next_link-i.ensures)
 
 pub loop-i-smaller : goal.loop-i-smaller
-loop-i-smaller c = omega (arith, c.next_link-i-in-loop-i.ensures.from-here)
+loop-i-smaller c = omega (arith, c.next_link-i-in-loop-i.ensures.from_here)
 
 pub loop-i-preserved : goal.loop-i-preserved
 loop-i-preserved c =

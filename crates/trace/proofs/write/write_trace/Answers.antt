@@ -11,7 +11,7 @@ put_path-i-requires c = (omega (arith, c.requires.route.few), omega (arith, trac
 
 pub put_steps-requires : goal.put_steps-requires
 put_steps-requires c = let p = c.put_path-i.ensures in
-    record { route = c.requires.route; start_in_bounds = omega (arith, trace_room c.requires.route c.args.weight c.args.text.now c.requires.weight_in_bounds, p.next, put_size p); }
+    record { route = c.requires.route; start_in_bounds = omega (arith, trace_room c.requires.route c.args.weight c.args.text.now c.requires.weight_in_bounds, p.next, put_size p) }
 
 pub returns : goal.returns
 returns c = rw (trace_parts c.requires.route c.args.weight) (then c.put_path-i.ensures c.put_steps.ensures)

@@ -23,7 +23,7 @@ pub next_fun-j-requires-in-loop-j : goal.next_fun-j-requires-in-loop-j
 next_fun-j-requires-in-loop-j c = (c.requires.0, omega (arith, c.loop-j-test.true, c.funs-end.ensures.0), c.requires.1)
 
 pub loop-j-smaller : goal.loop-j-smaller
-loop-j-smaller c = omega (arith, c.next_fun-j-in-loop-j.ensures.from-here, c.loop-j-test.true)
+loop-j-smaller c = omega (arith, c.next_fun-j-in-loop-j.ensures.from_here, c.loop-j-test.true)
 
 pub loop-j-preserved : goal.loop-j-preserved
 loop-j-preserved c = further _ _ _ _ _ (omega (arith, c.loop-j-test.true, c.funs-end.ensures.0)) c.loop-j.invariant (ne_eqb _ _ (λ e. c.if-fun_y-y.false (c.fun_y.ensures.0 ∙ e))) c.next_fun-j-in-loop-j.ensures

@@ -23,7 +23,7 @@ pub next_link-i-requires-in-loop-i : goal.next_link-i-requires-in-loop-i
 next_link-i-requires-in-loop-i c = (c.requires.0, omega (arith, c.loop-i-test.true, c.links-end.ensures.0), c.requires.1)
 
 pub loop-i-smaller : goal.loop-i-smaller
-loop-i-smaller c = omega (arith, c.next_link-i-in-loop-i.ensures.from-here, c.loop-i-test.true)
+loop-i-smaller c = omega (arith, c.next_link-i-in-loop-i.ensures.from_here, c.loop-i-test.true)
 
 pub loop-i-preserved : goal.loop-i-preserved
 loop-i-preserved c = further _ _ _ _ _ (omega (arith, c.loop-i-test.true, c.links-end.ensures.0)) c.loop-i.invariant (ne_eqb _ _ (λ e. c.if-link_number-l.false (c.link_number.ensures.0 ∙ e))) c.next_link-i-in-loop-i.ensures

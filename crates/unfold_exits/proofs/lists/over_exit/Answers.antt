@@ -15,7 +15,7 @@ told_at-requires c =
     rw c.exit_at.ensures (entry_in a.weight.now a.count.now a.exits.now a.len a.size a.row a.i c.requires.1 c.requires.0 c.requires.2 c.requires.3)
 
 pub overflow_add-result-2 : goal.overflow_add-result-2
-overflow_add-result-2 c = omega (arith, c.told_at.ensures.1, c.requires.1.cost-below c.args.i c.requires.0)
+overflow_add-result-2 c = omega (arith, c.told_at.ensures.1, c.requires.1.cost_below c.args.i c.requires.0)
 
 pub returns : goal.returns
 returns c = rw (c.told_at.ensures.0, c.exit_at.ensures)

@@ -10,7 +10,7 @@ pub returns-then-way-step_cost : goal.returns-then-way-step_cost
 returns-then-way-step_cost c = let a = c.args in link_fails a.net.now a.weight.now a.count.now a.exits.now a.len a.at a.f a.i _ _ c.way_over-way.ensures c.step_cost.ensures.0 c.if-way-step_cost.true
 
 pub overflow_sub-to : goal.overflow_sub-to
-overflow_sub-to c = let a = c.args in weight_left a.net.now a.weight.now a.count.now a.exits.now a.len a.at a.f a.i _ _ _ c.way_over-way.ensures c.step_cost.ensures.0 c.if-way-step_cost.false c.link_weight.ensures.0 c.requires.2.few-left
+overflow_sub-to c = let a = c.args in weight_left a.net.now a.weight.now a.count.now a.exits.now a.len a.at a.f a.i _ _ _ c.way_over-way.ensures c.step_cost.ensures.0 c.if-way-step_cost.false c.link_weight.ensures.0 c.requires.2.few_left
 
 pub returns : goal.returns
 returns c =
