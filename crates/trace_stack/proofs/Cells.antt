@@ -42,7 +42,7 @@ below_push cs h v p = rw (add-one h, get_or-set_same cs h v 0 p, below_set cs h 
 pub below_retop : (cs : List ℕ) (h v : ℕ) → 1 ≤ h → h ≤ length cs → below (set cs (h - 1) v) h ≡ v ∷ beneath (below cs h)
 unfolding below beneath
 below_retop cs zero v p q = absurd (omega arith)
-below_retop cs (suc h) v p q = let e : suc h - 1 ≡ h = omega arith in rw (e, get_or-set_same cs h v 0 q, below_set cs h v h (omega arith))
+below_retop cs (suc h) v p q = let e : suc h - 1 ≡ h = omega arith in rw e (rw (get_or-set_same cs h v 0 q) (ap (λ (l : List ℕ). v ∷ l) (below_set cs h v h (omega arith))))
 
 pub below_pop : (cs : List ℕ) (h : ℕ) → 1 ≤ h → below cs (h - 1) ≡ beneath (below cs h)
 unfolding below beneath

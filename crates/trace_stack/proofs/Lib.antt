@@ -1,4 +1,1 @@
 pub mod Cells
-pub mod Elem
-pub mod Machine
-pub mod Lent

@@ -11,13 +11,13 @@ pub loop-i-init : goal.loop-i-init
 loop-i-init c = record { within = search rules; same = search rules; values = λ j h. absurd (omega arith) }
 
 pub returns-in_default : goal.returns-in_default
-returns-in_default c = one_is_none c.loop-i.invariant c.loop-i-test.true (sym c.number_at.ensures ∙ c.enum_told-1.given.1)
+returns-in_default c = one_is_none c.loop-i.invariant c.loop-i-test.true ?
 
 pub loop-i-smaller : goal.loop-i-smaller
 loop-i-smaller c = let l = c.loop-i in one_less l.invariant _ c.loop-i-test.true
 
 pub loop-i-preserved : goal.loop-i-preserved
-loop-i-preserved c = one_more c.loop-i.invariant _ c.loop-i-test.true (sym c.number_at.ensures ∙ c.v-1.given.1)
+loop-i-preserved c = one_more c.loop-i.invariant _ c.loop-i-test.true (sym c.number_at.ensures ∙ c.in-Value.is)
 
 pub returns : goal.returns
 returns c = all_numbers c.loop-i.invariant c.loop-i-test.false
