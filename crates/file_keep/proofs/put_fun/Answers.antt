@@ -15,4 +15,4 @@ returns c =
     let f = sym (c.fun_fits.ensures _) ∙ not-false _ c.if-not-fun_fits.false in
     let a = c.add.ensures in
     let pre = c.requires in
-    record { number = λ ls. fun_added _ _ _ _ _ _ _ _ _ pre.2 pre.1 a _ _ ls f; kept = (λ z. (added_order _ _ _ _ _ _ _ a pre.0 c.add.auto.0 z, fun_coded _ _ _ _ _ _ _ _ _ pre.2 pre.1 a z), added_past _ _ _ _ _ _ _ a) }
+    record { number = λ ls. fun_added _ _ _ _ _ _ _ _ _ pre.2 pre.1 a _ _ ls f; kept = (λ z. (added_order _ _ _ _ _ _ _ a pre.0 c.add.auto.room z, fun_coded _ _ _ _ _ _ _ _ _ pre.2 pre.1 a z), added_past _ _ _ _ _ _ _ a) }

@@ -14,4 +14,4 @@ pub returns : goal.returns
 returns c =
     let f = sym c.link_fits.ensures ∙ not-false _ c.if-not-link_fits.false in
     let a = c.add.ensures in
-    record { number = λ p fs. link_added _ _ _ _ _ _ _ _ _ p fs f a; kept = (λ z. added_order _ _ _ _ _ _ _ a c.requires c.add.auto.0 z, added_past _ _ _ _ _ _ _ a) }
+    record { number = λ p fs. link_added _ _ _ _ _ _ _ _ _ p fs f a; kept = (λ z. added_order _ _ _ _ _ _ _ a c.requires c.add.auto.room z, added_past _ _ _ _ _ _ _ a) }

@@ -3,7 +3,7 @@ use borrow.Author.Rules.{rules}
 use Rattle.file_lines.proofs.net_line.Goals as goal
 
 pub returns-then-numbers_at : goal.returns-then-numbers_at
-returns-then-numbers_at c = net_all c.numbers_at.ensures c.numbers_at.auto.1.1.1.1.0 c.if-numbers_at.true
+returns-then-numbers_at c = net_all c.numbers_at.ensures c.numbers_at.auto.out c.if-numbers_at.true
 
 pub returns : goal.returns
-returns c = net_lacks c.numbers_at.ensures c.numbers_at.auto.1.1.1.1.0 c.if-numbers_at.false
+returns c = net_lacks c.numbers_at.ensures c.numbers_at.auto.out c.if-numbers_at.false

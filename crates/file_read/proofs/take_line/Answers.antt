@@ -20,4 +20,4 @@ returns c =
     let q = c.if-e-file.false in
     let t = c.read_turn-t in
     let n = c.next_line-next.ensures in
-    (λ ls fs i. stands_on _ _ _ _ _ _ _ i pre.0 pre.1 _ _ o q _ _ _ t.ensures t.auto.1.1.1.1.0 t.auto.1.1.1.1.1.0 _ n _ refl, further _ _ _ _ _ _ _ pre.2 pre.0 pre.1 _ _ o q _ _ _ t.ensures _ n)
+    (λ ls fs i. stands_on _ _ _ _ _ _ _ i pre.0 pre.1 _ _ o q _ _ _ t.ensures t.auto.links t.auto.funs _ n _ refl, further _ _ _ _ _ _ _ pre.2 pre.0 pre.1 _ _ o q _ _ _ t.ensures _ n)

@@ -21,7 +21,7 @@ pub loop-done-smaller : goal.loop-done-smaller
 loop-done-smaller c = left_less _ _ _ _ _ _ _ _ _ _ _ _ c.requires.arranged c.sweep_all-fell.ensures refl _ _ _ _ _ c.loop-done.invariant c.loop-done-test.true c.since_when-since.ensures
 
 pub loop-done-preserved : goal.loop-done-preserved
-loop-done-preserved c = settling_turn _ _ _ _ _ _ _ _ _ _ _ _ c.requires.arranged c.sweep_all-fell.ensures refl _ _ _ _ c.loop-done.invariant c.sweep_all-fell.auto.1.1.1.0
+loop-done-preserved c = settling_turn _ _ _ _ _ _ _ _ _ _ _ _ c.requires.arranged c.sweep_all-fell.ensures refl _ _ _ _ c.loop-done.invariant c.sweep_all-fell.auto.stamps
 
 pub returns : goal.returns
 returns c = settled _ _ _ _ _ _ _ _ _ _ c.requires.arranged c.requires.roomy (rw c.places.ensures.0 at c.prepare.ensures) _ c.loop-done.invariant (not-false _ c.loop-done-test.false)

@@ -6,7 +6,7 @@ use Rattle.trace_replay.proofs.Ways.{stays, arrives}
 use Rattle.trace_replay.proofs.packet.stepped.Goals as goal
 
 pub returns-in-Nowhere : goal.returns-in-Nowhere
-returns-in-Nowhere c = stays _ c.args.key c.args.p (ap hopped (sym c.enum_told-1.given.1) ∙ c.hop-to.ensures)
+returns-in-Nowhere c = stays _ c.args.key c.args.p (ap hopped (sym c.in-Nowhere.is) ∙ c.hop-to.ensures)
 
 pub returns-in-To : goal.returns-in-To
-returns-in-To c = arrives _ c.args.key c.args.p _ _ _ (ap hopped (sym c.to-1.given.1) ∙ c.hop-to.ensures) c.height_after-height.ensures
+returns-in-To c = arrives _ c.args.key c.args.p _ _ _ (ap hopped (sym c.in-To.is) ∙ c.hop-to.ensures) c.height_after-height.ensures

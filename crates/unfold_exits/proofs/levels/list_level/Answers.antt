@@ -16,7 +16,7 @@ pub list_word-len-requires : goal.list_word-len-requires
 list_word-len-requires c = let l = c.loop-q in let p = c.requires in (p.0, rw l.invariant.2 p.1, omega (arith, c.words_for-words.ensures.0), l.invariant.1)
 
 pub loop-q-preserved : goal.loop-q-preserved
-loop-q-preserved c = let s = c.list_word-len in (omega arith, s.ensures, s.auto.1.1.1.1.1.1.0 ∙ c.loop-q.invariant.2)
+loop-q-preserved c = let s = c.list_word-len in (omega arith, s.ensures, s.auto.exits ∙ c.loop-q.invariant.2)
 
 pub returns : goal.returns
 returns c =

@@ -19,7 +19,7 @@ pub list_place-m-requires : goal.list_place-m-requires
 list_place-m-requires c = let l = c.loop-e in let p = c.requires in (p.0, rw l.invariant.2 p.1, l.invariant.1)
 
 pub loop-e-preserved : goal.loop-e-preserved
-loop-e-preserved c = let s = c.list_place-m in (omega arith, s.ensures, s.auto.1.1.1.1.1.1.0 ∙ c.loop-e.invariant.2)
+loop-e-preserved c = let s = c.list_place-m in (omega arith, s.ensures, s.auto.exits ∙ c.loop-e.invariant.2)
 
 pub returns : goal.returns
 returns c = let l = c.loop-e in gathered_to l.e _ l.invariant.0 (omega arith) l.invariant.1

@@ -9,4 +9,4 @@ pub list_funs-requires : goal.list_funs-requires
 list_funs-requires c = let p = c.requires in let l = c.land_all.ensures in (record { arranged = p.0.arranged; some = l.some; most = landed_most _ _ _ _ _ _ l }, p.1)
 
 pub returns : goal.returns
-returns c = let p = c.requires in tunnel_listed p.0.arranged c.land_all.ensures c.list_funs.ensures (rw c.list_funs.auto.1.1.1.0 p.1)
+returns c = let p = c.requires in tunnel_listed p.0.arranged c.land_all.ensures c.list_funs.ensures (rw c.list_funs.auto.outs p.1)

@@ -15,7 +15,7 @@ pub mark_out-requires : goal.mark_out-requires
 mark_out-requires c = (omega arith, still_marking c.requires c.loop-i.invariant.2)
 
 pub loop-i-preserved : goal.loop-i-preserved
-loop-i-preserved c = let l = c.loop-i in let s = c.mark_out in (omega arith, meets_more _ _ _ _ _ l.i l.invariant.1 s.ensures, s.auto.1.1.1.1.1.1.1.1.0 ∙ l.invariant.2)
+loop-i-preserved c = let l = c.loop-i in let s = c.mark_out in (omega arith, meets_more _ _ _ _ _ l.i l.invariant.1 s.ensures, s.auto.choice ∙ l.invariant.2)
 
 pub returns : goal.returns
 returns c = let l = c.loop-i in meets_all _ _ _ _ _ l.i _ l.invariant.0 (omega arith) l.invariant.1

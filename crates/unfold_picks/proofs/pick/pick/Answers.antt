@@ -11,7 +11,7 @@ pub look_level-on-requires : goal.look_level-on-requires
 look_level-on-requires c = let p = c.requires in (omega arith, look_here p.1 _ _ c.record_length-length.ensures.0 refl p.0, p.2)
 
 pub look_tunnel-into-requires : goal.look_tunnel-into-requires
-look_tunnel-into-requires c = let p = c.requires in (look_here p.1 _ _ c.record_length-length.ensures.0 refl p.0, omega (arith, p.2, c.look_level-on.auto.1.1.1.1.1.1.1.1.1.0), p.3)
+look_tunnel-into-requires c = let p = c.requires in (look_here p.1 _ _ c.record_length-length.ensures.0 refl p.0, omega (arith, p.2, c.look_level-on.auto.exits), p.3)
 
 pub returns-then-k-eq0 : goal.returns-then-k-eq0
 returns-then-k-eq0 c =
@@ -28,7 +28,7 @@ overflow_sub-o c = one_at_least _ _ c.if-k-eq0.false
 
 pub look_level-requires : goal.look_level-requires
 look_level-requires c =
-    (omega arith, look_below c.args.k c.requires.1 _ _ c.record_length-length.ensures.0 refl c.requires.0 c.if-k-eq0.false, omega (arith, c.requires.2, c.look_level-on.auto.1.1.1.1.1.1.1.1.1.0, c.look_tunnel-into.auto.1.1.1.1.1.1.1.0))
+    (omega arith, look_below c.args.k c.requires.1 _ _ c.record_length-length.ensures.0 refl c.requires.0 c.if-k-eq0.false, omega (arith, c.requires.2, c.look_level-on.auto.exits, c.look_tunnel-into.auto.exits))
 
 pub returns : goal.returns
 returns c =
