@@ -8,8 +8,10 @@ ghost use Rattle.network_records.specs.Columns.{link_room, fun_room};
 
 use file_fields::find;
 use file_read::Judgement;
-use libc::STDOUT_FILENO;
 use network_records::{FUN_ROOM, FUN_WIDTH, LINK_ROOM, LINK_WIDTH};
+use program_io::read_full;
+use std::rt::Files;
+use std::{fs, io};
 
 mod many;
 
@@ -17,19 +19,19 @@ fn wide(x: u32) -> u64 {
     x as u64
 }
 
-fn tell(n: u64) {
-    io::write_all(STDOUT_FILENO, b"\t");
-    io::print_decimal(STDOUT_FILENO, n);
+fn tell(rt: &impl Print, n: u64) -> io::Result<()> {
+    rt.write_all(b"\t")?;
+    rt.print(n)
 }
 
-fn tell_judgement(j: Judgement) {
-    tell(wide(j.number));
-    tell(wide(j.line));
+fn tell_judgement(rt: &impl Print, j: Judgement) -> io::Result<()> {
+    tell(rt, wide(j.number))?;
+    tell(rt, wide(j.line))?;
     let z = j.size;
-    tell(z.nodes as u64);
-    tell(z.protocols as u64);
-    tell(z.links as u64);
-    tell(z.funs as u64);
+    tell(rt, z.nodes as u64)?;
+    tell(rt, z.protocols as u64)?;
+    tell(rt, z.links as u64)?;
+    tell(rt, z.funs as u64)
 }
 
 // How many entries n links take, and n functions, where they are few.
@@ -42,74 +44,76 @@ fn fun_entries(n: usize) -> usize {
 }
 
 // The first k entries.
-fn tell_entries(room: &[u32], k: usize) {
+fn tell_entries(rt: &impl Print, room: &[u32], k: usize) -> io::Result<()> {
     let mut i: usize = 0;
     while i < k {
         if i < room.len() {
-            tell(wide(room[i]));
+            tell(rt, wide(room[i]))?;
         }
         i += 1;
     }
+    Ok(())
 }
 
-fn with_rooms(file: &[u8], links: &mut [u32], funs: &mut [u32])
+fn with_rooms(rt: &impl Print, file: &[u8], links: &mut [u32], funs: &mut [u32]) -> io::Result<()>
     requires { (link_room ≤ length links.old) × (fun_room ≤ length funs.old) }
 {
     let j = file_read::read(file, links, funs);
     let z = j.size;
-    tell_judgement(j);
-    tell_entries(links, link_entries(z.links));
-    tell_entries(funs, fun_entries(z.funs));
+    tell_judgement(rt, j)?;
+    tell_entries(rt, links, link_entries(z.links))?;
+    tell_entries(rt, funs, fun_entries(z.funs))
 }
 
-pub fn one(name: &[u8], file: &[u8]) {
+pub fn one(rt: &impl Print, name: &[u8], file: &[u8]) -> io::Result<()> {
     let mut links = [0u32; LINK_ROOM];
     let mut funs = [0u32; FUN_ROOM];
-    io::write_all(STDOUT_FILENO, name);
-    with_rooms(file, &mut links, &mut funs);
-    io::write_all(STDOUT_FILENO, b"\n");
+    rt.write_all(name)?;
+    with_rooms(rt, file, &mut links, &mut funs)?;
+    rt.write_all(b"\n")
 }
 
 // The file named from a up to n, whose bytes go from there up to e.
-fn named(cases: &[u8], a: usize, n: usize, e: usize)
+fn named(rt: &impl Print, cases: &[u8], a: usize, n: usize, e: usize) -> io::Result<()>
     requires { (a ≤ n) × (n < e) × (e ≤ length cases.now) }
 {
-    one(&cases[a..n], &cases[n + 1..e]);
+    one(rt, &cases[a..n], &cases[n + 1..e])
 }
 
 // The cases, one after another.
-fn all(cases: &[u8]) {
+fn all(rt: &impl Print, cases: &[u8]) -> io::Result<()> {
     let mut a: usize = 0;
     while a < cases.len() {
         let n = find(cases, a, cases.len(), b'\n');
         if n == cases.len() {
-            return;
+            return Ok(());
         }
         let e = find(cases, n + 1, cases.len(), 30);
         if cases.len() - e < 2 {
-            return;
+            return Ok(());
         }
-        named(cases, a, n, e);
+        named(rt, cases, a, n, e)?;
         a = e + 2;
     }
+    Ok(())
 }
 
-fn small(room: &mut [u8]) {
-    let fd = os::open_read(b"cases");
-    if fd < 0 {
-        return;
+fn small(rt: &(impl Files + Print), room: &mut [u8]) -> io::Result<()> {
+    match fs::open(rt, "cases") {
+        Ok(mut file) => {
+            let n = read_full(&mut file, room)?;
+            all(rt, &room[0..n])
+        }
+        Err(_) => Ok(()),
     }
-    let n = io::read_full(fd, room);
-    libc::close(fd);
-    all(&room[0..n]);
 }
 
-fn main() {
+fn main(rt: HostRuntime) -> io::Result<()> {
     let mut room = [0u8; 65540];
-    small(&mut room);
-    one(b"NUL", b"net\t1\x00\t1\n");
-    one(b"NUL line", b"net\t1\t1\n\x00\n");
-    many::large(&mut room);
-    many::link_records(&mut room);
-    many::fun_records(&mut room);
+    small(&rt, &mut room)?;
+    one(&rt, b"NUL", b"net\t1\x00\t1\n")?;
+    one(&rt, b"NUL line", b"net\t1\t1\n\x00\n")?;
+    many::large(&rt, &mut room)?;
+    many::link_records(&rt, &mut room)?;
+    many::fun_records(&rt, &mut room)
 }

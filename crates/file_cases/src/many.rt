@@ -2,6 +2,7 @@
 ghost use Rattle.std.specs.Prelude.{◌≤◌, length};
 
 use digits::write::{put_number, put_word, width};
+use std::io;
 
 // The text, where there is room for it.
 fn text(out: &mut [u8], at: usize, s: &[u8]) -> usize
@@ -72,10 +73,11 @@ fn functions(out: &mut [u8], at: usize, n: u32) -> usize
     e
 }
 
-fn sized(name: &[u8], out: &mut [u8], n: usize) {
+fn sized(rt: &impl Print, name: &[u8], out: &mut [u8], n: usize) -> io::Result<()> {
     if n <= out.len() {
-        crate::one(name, &out[0..n]);
+        crate::one(rt, name, &out[0..n])?;
     }
+    Ok(())
 }
 
 fn fill(out: &mut [u8]) {
@@ -86,57 +88,82 @@ fn fill(out: &mut [u8]) {
     }
 }
 
-pub fn large(out: &mut [u8]) {
+pub fn large(rt: &impl Print, out: &mut [u8]) -> io::Result<()> {
     fill(out);
     text(out, 0, b"net\t1\t1\n");
-    sized(b"65536 bytes", out, 65536);
-    sized(b"65537 bytes", out, 65537);
+    sized(rt, b"65536 bytes", out, 65536)?;
+    sized(rt, b"65537 bytes", out, 65537)
 }
 
 // c links and d functions, and one line more.
-fn counted(name: &[u8], out: &mut [u8], c: u32, d: u32, more: &[u8]) {
+fn counted(
+    rt: &impl Print,
+    name: &[u8],
+    out: &mut [u8],
+    c: u32,
+    d: u32,
+    more: &[u8],
+) -> io::Result<()> {
     let a = text(out, 0, b"net\t256\t2\n");
     let b = links(out, a, c);
     let e = functions(out, b, d);
     let f = text(out, e, more);
-    crate::one(name, &out[0..f]);
+    crate::one(rt, name, &out[0..f])
 }
 
-pub fn link_records(out: &mut [u8]) {
-    counted(b"1024 links", out, 1024, 0, &[0u8; 0]);
-    counted(b"1025 links", out, 1024, 0, b"link\t1024\t0\t0\t0\n");
+pub fn link_records(rt: &impl Print, out: &mut [u8]) -> io::Result<()> {
+    counted(rt, b"1024 links", out, 1024, 0, &[0u8; 0])?;
+    counted(rt, b"1025 links", out, 1024, 0, b"link\t1024\t0\t0\t0\n")?;
     counted(
+        rt,
         b"1025 links, the last number used",
         out,
         1024,
         0,
         b"link\t1023\t0\t0\t0\n",
-    );
+    )?;
     counted(
+        rt,
         b"1025 links, the last out of range",
         out,
         1024,
         0,
         b"link\t1023\t256\t0\t0\n",
-    );
+    )
 }
 
-pub fn fun_records(out: &mut [u8]) {
-    counted(b"1024 functions", out, 0, 1024, &[0u8; 0]);
-    counted(b"1025 functions", out, 0, 1024, b"fun\t0\twrap\t0\t0\t0\n");
+pub fn fun_records(rt: &impl Print, out: &mut [u8]) -> io::Result<()> {
+    counted(rt, b"1024 functions", out, 0, 1024, &[0u8; 0])?;
     counted(
+        rt,
+        b"1025 functions",
+        out,
+        0,
+        1024,
+        b"fun\t0\twrap\t0\t0\t0\n",
+    )?;
+    counted(
+        rt,
         b"1025 functions, the last given",
         out,
         0,
         1024,
         b"fun\t255\tconv\t1\t1\t0\n",
-    );
-    counted(b"1024 links and 1024 functions", out, 1024, 1024, &[0u8; 0]);
+    )?;
     counted(
+        rt,
+        b"1024 links and 1024 functions",
+        out,
+        1024,
+        1024,
+        &[0u8; 0],
+    )?;
+    counted(
+        rt,
         b"1024 links and 1025 functions",
         out,
         1024,
         1024,
         b"fun\t255\tunwrap\t1\t1\t0\n",
-    );
+    )
 }

@@ -2,23 +2,22 @@
 #![tactic(auto)]
 
 use file_normal::file::normal_file;
-use libc::STDOUT_FILENO;
 use program_io::{load_file, write_reply};
+use std::io;
 
 // The text room has the length of the longest network file, which no normal file passes.
-fn normalise(file: &[u8], text: &mut [u8]) {
+fn normalise(rt: &impl Print, file: &[u8], text: &mut [u8]) -> io::Result<()> {
     let o = normal_file(file, text);
     let length = o.length;
     if o.number != 0 {
-        write_reply(b"badnet", o.number, o.line);
-        return;
+        return write_reply(rt, b"badnet", o.number, o.line);
     }
-    io::write_all(STDOUT_FILENO, &text[0..length]);
+    rt.write_all(&text[0..length])
 }
 
-fn main() {
+fn main(rt: HostRuntime) -> io::Result<()> {
     let mut file = [0u8; 65537];
     let mut text = [0u8; 65536];
-    let n = load_file(&mut file);
-    normalise(&file[0..n], &mut text);
+    let n = load_file(&rt, &mut file);
+    normalise(&rt, &file[0..n], &mut text)
 }

@@ -1,7 +1,7 @@
 -- A reply is its word, two numbers and an LF, one after another. Assumes nothing.
 use mathlib.Core.Path.{◌≡◌, sym, ap, ◌∙◌}
 use mathlib.Core.List.{List, [], ◌∷◌, ◌++◌, append_assoc, append-nil}
-use Prim.Native.Nat.{ℕ, ◌+◌}
+use Prim.Native.Nat.{ℕ}
 use Rattle.paper.specs.Text.{decimal, tabbed, written}
 
 pub reply_parts : (w : List ℕ) (x y : ℕ) → written w (decimal x ∷ decimal y ∷ []) ≡ w ++ (9 ∷ decimal x) ++ (9 ∷ decimal y) ++ (10 ∷ [])

@@ -1,24 +1,42 @@
 // What the programs share: net.tsv is loaded, and a reply that is no trace and no normal file is written.
 #![tactic(auto)]
 
-ghost use Rattle.std.specs.Prelude.{[], ◌∷◌, ◌≤◌, length};
+ghost use Rattle.std.specs.Prelude.{[], ◌∷◌, ◌≤◌, ◌<◌, IfOk, take, length};
+ghost use Rattle.std.specs.Io.KnownBytes.{Consumes, IsAtEnd};
 ghost use Rattle.paper.specs.Text.{decimal, written};
 ghost use Rattle.digits.specs.Write.{Put};
 
 use digits::write::{put_byte, put_field, put_word};
-use libc::STDOUT_FILENO;
+use std::io::Read;
+use std::rt::Files;
+use std::{fs, io};
 
-// As much of net.tsv as the room holds, and how much that is; a file that cannot be opened counts as an empty one.
-pub fn load_file(room: &mut [u8]) -> usize
+// As much of the input as the room holds, and how much that is.
+pub fn read_full<R: Read>(input: &mut R, room: &mut [u8]) -> io::Result<usize>
+    ensures fits { IfOk result (λ n. n ≤ length room.new) }
+    ensures bytes { IfOk result (λ n. Consumes (R.remaining input.old) (R.remaining input.new) (take n room.new)) }
+    ensures end { IfOk result (λ n. n < length room.new → IsAtEnd (R.remaining input.new)) }
+{
+    let mut at: usize = 0;
+    while at < room.len() {
+        let n = input.read(&mut room[at..])?;
+        if n == 0 {
+            break;
+        }
+        at += n;
+    }
+    Ok(at)
+}
+
+// As much of net.tsv as the room holds, and how much that is; a file that cannot be opened counts as an empty one,
+// and so does one that opens but cannot be read.
+pub fn load_file(rt: &impl Files, room: &mut [u8]) -> usize
     ensures { result ≤ length room.new }
 {
-    let fd = os::open_read(b"net.tsv");
-    if fd < 0 {
-        return 0;
+    match fs::open(rt, "net.tsv") {
+        Ok(mut file) => read_full(&mut file, room).unwrap_or(0),
+        Err(_) => 0,
     }
-    let n = io::read_full(fd, room);
-    libc::close(fd);
-    n
 }
 
 // A word of at most seven letters, an outcome's number and a line, into the front of a room that holds any such line.
@@ -33,10 +51,10 @@ fn put_reply(out: &mut [u8], word: &[u8], number: u32, line: u32) -> usize
     put_byte(out, i, b'\n')
 }
 
-pub fn write_reply(word: &[u8], number: u32, line: u32)
+pub fn write_reply(rt: &impl Print, word: &[u8], number: u32, line: u32) -> io::Result<()>
     requires { length word.now ≤ 7 }
 {
     let mut reply = [0u8; 64];
     let r = put_reply(&mut reply, word, number, line);
-    io::write_all(STDOUT_FILENO, &reply[0..r]);
+    rt.write_all(&reply[0..r])
 }

@@ -12,14 +12,14 @@ use enquiry::answer::in_range;
 use enquiry::load::load;
 use enquiry::travel::{refusal, travel};
 use file_fields::find;
-use libc::{STDIN_FILENO, STDOUT_FILENO};
 use network::size::{ROOM, places};
 use network_records::index;
 use paper::limits::MOST_BYTES;
 use paper::outcome::Outcome;
 use paper::place::Place;
 use program_asks::{Ask, read_ask};
-use program_io::{load_file, write_reply};
+use program_io::{load_file, read_full, write_reply};
+use std::io;
 use tables::fill;
 
 // The places that the program lends room for.
@@ -52,6 +52,7 @@ fn enquire(
 
 // The answer to one input line, written out.
 fn respond(
+    rt: &impl Print,
     net: &[u32],
     tabled: bool,
     weight: &[u32],
@@ -61,7 +62,7 @@ fn respond(
     text: &mut [u8],
     ask: Ask,
     line: u32,
-)
+) -> io::Result<()>
     requires { Arranged net.now × (tabled ≡ true → Ready net.now weight.now count.now choice.old) }
     ensures { tabled ≡ true → Ready net.now weight.now count.now choice.new }
 {
@@ -78,19 +79,24 @@ fn respond(
             let o = enquire(net, tabled, start, end, weight, count, choice, step, text);
             let length = o.length;
             if o.number != 0 {
-                write_reply(b"refused", o.number, line);
-                return;
+                return write_reply(rt, b"refused", o.number, line);
             }
-            io::write_all(STDOUT_FILENO, &text[0..length]);
+            rt.write_all(&text[0..length])
         }
-        Ask::Misshapen => {
-            write_reply(b"refused", 2, line);
-        }
+        Ask::Misshapen => write_reply(rt, b"refused", 2, line),
     }
 }
 
 // Every input line in turn; the last one may lack its LF, and is misshapen then.
-fn serve(net: &[u32], tabled: bool, weight: &[u32], count: &[u16], choice: &mut [u16], input: &[u8])
+fn serve(
+    rt: &impl Print,
+    net: &[u32],
+    tabled: bool,
+    weight: &[u32],
+    count: &[u16],
+    choice: &mut [u16],
+    input: &[u8],
+) -> io::Result<()>
     requires arranged { Arranged net.now × (tabled ≡ true → Ready net.now weight.now count.now choice.old) }
     requires input_len_bound { length input.now ≤ 65536 }
 {
@@ -102,19 +108,19 @@ fn serve(net: &[u32], tabled: bool, weight: &[u32], count: &[u16], choice: &mut 
         line += 1;
         let e = find(input, at, input.len(), b'\n');
         if e == input.len() {
-            write_reply(b"refused", 2, line);
-            return;
+            return write_reply(rt, b"refused", 2, line);
         }
         let ask = read_ask(input, at, e);
         respond(
-            net, tabled, weight, count, choice, &mut step, &mut text, ask, line,
-        );
+            rt, net, tabled, weight, count, choice, &mut step, &mut text, ask, line,
+        )?;
         at = e + 1;
     }
+    Ok(())
 }
 
 // The tables of a network that the rooms hold, and then the enquiries.
-fn tabulate(net: &[u32], input: &[u8])
+fn tabulate(rt: &impl Print, net: &[u32], input: &[u8]) -> io::Result<()>
     requires arranged { Arranged net.now }
     requires input_len_bound { length input.now ≤ 65536 }
 {
@@ -122,38 +128,35 @@ fn tabulate(net: &[u32], input: &[u8])
     let mut count = [0u16; 4096];
     let mut choice = [0u16; 32768];
     if PLACES < places(net) {
-        serve(net, false, &weight, &count, &mut choice, input);
-        return;
+        return serve(rt, net, false, &weight, &count, &mut choice, input);
     }
     fill(net, &mut weight, &mut count, &mut choice);
-    serve(net, true, &weight, &count, &mut choice, input);
+    serve(rt, net, true, &weight, &count, &mut choice, input)
 }
 
-fn listen(net: &[u32])
+fn listen(rt: &(impl Input + Print), net: &[u32]) -> io::Result<()>
     requires { Arranged net.now }
 {
     let mut input = [0u8; 65537];
-    let k = io::read_full(STDIN_FILENO, &mut input);
+    let k = read_full(&mut rt.reader(), &mut input)?;
     if MOST_BYTES < k {
-        write_reply(b"badask", 1, 0);
-        return;
+        return write_reply(rt, b"badask", 1, 0);
     }
-    tabulate(net, &input[0..k]);
+    tabulate(rt, net, &input[0..k])
 }
 
 // The network is judged before the input is read.
-fn judge(file: &[u8]) {
+fn judge(rt: &(impl Input + Print), file: &[u8]) -> io::Result<()> {
     let mut net = [0u32; ROOM];
     let j = load(file, &mut net);
     if j.number != 0 {
-        write_reply(b"badnet", j.number, j.line);
-        return;
+        return write_reply(rt, b"badnet", j.number, j.line);
     }
-    listen(&net);
+    listen(rt, &net)
 }
 
-fn main() {
+fn main(rt: HostRuntime) -> io::Result<()> {
     let mut file = [0u8; 65537];
-    let n = load_file(&mut file);
-    judge(&file[0..n]);
+    let n = load_file(&rt, &mut file);
+    judge(&rt, &file[0..n])
 }

@@ -1,5 +1,4 @@
 use native.Mathlib.Omega.{arith}
-use borrow.Author.Rules.{rules}
 use Rattle.digits.proofs.Writing.{then}
 use Rattle.digits.proofs.Digits.{decimal_most}
 use Rattle.program_io.proofs.Replies.{reply_parts}
