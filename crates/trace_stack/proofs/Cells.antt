@@ -1,7 +1,7 @@
 -- Laws of the stack's cells: what a store at the top does to the list of protocols; and that `acted` is what `act` does where it allows.
 -- Assumes nothing.
 use Prim.Native.Nat.{ℕ, zero, suc, ◌+◌, ◌-◌, ◌<◌, ◌≤◌}
-use mathlib.Core.Path.{◌≡◌, refl, ap, ◌∙◌}
+use mathlib.Core.Path.{◌≡◌, refl, ap, ◌∙◌, subst, sym}
 use mathlib.Core.Bool.{Bool, true, false, cond}
 use mathlib.Core.List.{List, [], ◌∷◌}
 use mathlib.Core.Option.{some, none-ne-some}
@@ -39,10 +39,16 @@ pub below_push : (cs : List ℕ) (h v : ℕ) → h < length cs → below (set cs
 unfolding below
 below_push cs h v p = rw (add-one h, get_or-set_same cs h v 0 p, below_set cs h v h (omega arith))
 
+below_retop_at : (cs : List ℕ) (h v k : ℕ) → k ≡ h → suc h ≤ length cs → below (set cs k v) (suc h) ≡ v ∷ below cs h
+unfolding below
+below_retop_at cs h v k e q =
+    let f = rw (add-one h) at (below_push cs h v (omega arith)) in
+    subst (λ (i : ℕ). below (set cs i v) (suc h) ≡ v ∷ below cs h) (sym e) f
+
 pub below_retop : (cs : List ℕ) (h v : ℕ) → 1 ≤ h → h ≤ length cs → below (set cs (h - 1) v) h ≡ v ∷ beneath (below cs h)
 unfolding below beneath
 below_retop cs zero v p q = absurd (omega arith)
-below_retop cs (suc h) v p q = let e : suc h - 1 ≡ h = omega arith in rw e (rw (get_or-set_same cs h v 0 q) (ap (λ (l : List ℕ). v ∷ l) (below_set cs h v h (omega arith))))
+below_retop cs (suc h) v p q = below_retop_at cs h v (suc h - 1) (omega arith) q
 
 pub below_pop : (cs : List ℕ) (h : ℕ) → 1 ≤ h → below cs (h - 1) ≡ beneath (below cs h)
 unfolding below beneath

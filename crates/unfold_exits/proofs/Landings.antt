@@ -1,6 +1,6 @@
 -- From a tunnel's exit on: over the links that leave it, and for each function that unwraps there. Assumes nothing.
 use Prim.Native.Nat.{ℕ, suc, ◌+◌, ◌*◌, ◌<◌, ◌≤◌, min}
-use mathlib.Core.Path.{◌≡◌, refl, sym, ap, ◌∙◌}
+use mathlib.Core.Path.{subst, ◌≡◌, refl, sym, ap, ◌∙◌}
 use mathlib.Core.Bool.{Bool, true, false, cond}
 use mathlib.Core.List.{List}
 use native.Mathlib.Omega.{arith}
@@ -41,7 +41,8 @@ module _ (g W C E : List ℕ) (len x : ℕ) where
       go : (u : ℕ) → u < nodes g → Dec (a ≡ u) → get_or (set G a (min k (get_or G a 0))) u 0 ≡ least (landing g W C E len x u) (suc i)
       go u h (yes e) =
           let here : eqb (from g i) a ≡ true = eq-eqb (from g i) a (sym ea) in
-          rw (← e, get_or-set_same G a (min k (get_or G a 0)) 0 (omega (arith, l.some, ea)), l.each a (rw e h), here, ek) (omega arith)
+          subst (λ (v : ℕ). get_or (set G a (min k (get_or G a 0))) v 0 ≡ least (landing g W C E len x v) (suc i)) e
+          (rw (get_or-set_same G a (min k (get_or G a 0)) 0 (omega (arith, l.some, ea)), l.each a (rw e h), here, ek) (omega arith))
       go u h (no e) =
           let away : eqb (from g i) u ≡ false = ne_eqb (from g i) u (λ f. e (ea ∙ f)) in
           rw (get_or-set_other G a u (min k (get_or G a 0)) 0 (λ f. e (sym f)), l.each u h, away) (omega (arith, least_far (landing g W C E len x u) i))

@@ -11,7 +11,7 @@ pub loop-i-init : goal.loop-i-init
 loop-i-init c = record { within = search rules; same = search rules; values = λ j h. absurd (omega arith) }
 
 pub returns-in_default : goal.returns-in_default
-returns-in_default c = one_is_none c.loop-i.invariant c.loop-i-test.true ?
+returns-in_default c = one_is_none c.loop-i.invariant c.loop-i-test.true (sym c.number_at.ensures ∙ c.in_default.is)
 
 pub loop-i-smaller : goal.loop-i-smaller
 loop-i-smaller c = let l = c.loop-i in one_less l.invariant _ c.loop-i-test.true

@@ -7,11 +7,11 @@ use borrow.Author.Rules.{rules}
 use Rattle.file_keep.proofs.put_link.Goals as goal
 
 pub returns-then-not-link_fits : goal.returns-then-not-link_fits
-returns-then-not-link_fits c = let f = sym c.link_fits.ensures ∙ not-true _ c.if-not-link_fits.true in
+returns-then-not-link_fits c = let f = sym c.link_fits.ensures ∙ c.if-not-link_fits.true in
     record { number = λ p fs. link_wide _ _ _ _ _ _ _ _ 3 p fs f; kept = (λ z. absurd (omega arith), past_none _ _ _) }
 
 pub returns : goal.returns
 returns c =
-    let f = sym c.link_fits.ensures ∙ not-false _ c.if-not-link_fits.false in
+    let f = sym c.link_fits.ensures ∙ c.if-not-link_fits.false in
     let a = c.add.ensures in
     record { number = λ p fs. link_added _ _ _ _ _ _ _ _ _ p fs f a; kept = (λ z. added_order _ _ _ _ _ _ _ a c.requires c.add.auto.room z, added_past _ _ _ _ _ _ _ a) }

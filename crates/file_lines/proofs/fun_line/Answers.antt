@@ -7,16 +7,10 @@ pub returns-in_default : goal.returns-in_default
 returns-in_default c = no_node _ _ _ _ _ (sym c.number_at.ensures ∙ c.in_default.is)
 
 pub returns-in_default-kind_at : goal.returns-in_default-kind_at
-returns-in_default-kind_at c = no_kind _ _ _ _ _ _ (sym c.number_at.ensures ∙ c.in_default-kind_at.is) (sym c.kind_at.ensures ∙ c.in_default-kind_at.is)
+returns-in_default-kind_at c = no_kind _ _ _ _ _ _ (sym c.number_at.ensures ∙ c.in-Value.is) (sym c.kind_at.ensures ∙ c.in_default-kind_at.is)
 
 pub returns-then-numbers_at : goal.returns-then-numbers_at
-returns-then-numbers_at c =
-    let k = c in
-    let n = k.before.before.before.before in
-    fun_all _ _ c.numbers_at.ensures _ _ (sym n.before.before.number_at.ensures ∙ n.node.given.1) (sym k.before.before.kind_at.ensures ∙ k.kind.given.1) c.numbers_at.auto.out c.if-numbers_at.true
+returns-then-numbers_at c = fun_all _ _ c.numbers_at.ensures _ _ (sym c.number_at.ensures ∙ c.in-Value.is) (sym c.kind_at.ensures ∙ c.in-Value-kind_at.is) c.numbers_at.auto.out c.if-numbers_at.true
 
 pub returns : goal.returns
-returns c =
-    let k = c in
-    let n = k.before.before.before.before in
-    fun_lacks _ _ c.numbers_at.ensures _ _ (sym n.before.before.number_at.ensures ∙ n.node.given.1) (sym k.before.before.kind_at.ensures ∙ k.kind.given.1) c.numbers_at.auto.out c.if-numbers_at.false
+returns c = fun_lacks _ _ c.numbers_at.ensures _ _ (sym c.number_at.ensures ∙ c.in-Value.is) (sym c.kind_at.ensures ∙ c.in-Value-kind_at.is) c.numbers_at.auto.out c.if-numbers_at.false

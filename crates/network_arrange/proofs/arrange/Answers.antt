@@ -16,7 +16,7 @@ lay_funs-requires c = (funs_groupable _ _ _ c.requires.0, search rules)
 pub returns : goal.returns
 returns c =
     let p = c.requires in
-    let g = c.lay_funs.new.1.1.0 in
+    let g = c.lay_funs.new.net in
     let laid = arranged_so _ _ _ c.args.net.now _ _ g (links_groupable _ _ _ p.0) (omega arith) c.head.ensures c.lay_links.ensures c.lay_funs.ensures in
     let room : room_size ≤ length g = search rules in
     record { laid = laid; arranged = arranged _ _ _ p.0 g room laid; leads = leads _ _ _ p.0 g room laid }

@@ -7,4 +7,4 @@ use Rattle.trace_measure.proofs.line_size.Goals as goal
 
 pub returns : goal.returns
 unfolding key_of line_size
-returns c = (omega (arith, c.width-4.ensures, c.width-3.ensures, c.width-2.ensures, c.word_size.ensures, c.width.ensures), search rules)
+returns c = (omega (arith, c.width-4.ensures, c.width-3.ensures, c.width-2.ensures, c.word_size.ensures, c.width.ensures))

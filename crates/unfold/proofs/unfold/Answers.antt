@@ -7,10 +7,10 @@ use borrow.Author.Rules.{rules}
 use Rattle.unfold.proofs.unfold.Goals as goal
 
 pub overflow_mul-room : goal.overflow_mul-room
-overflow_mul-room c = omega (arith, room_is c.places-size.ensures.0, c.requires.choices, search rules)
+overflow_mul-room c = omega (arith, room_is c.places-size.ensures.0, c.requires.choices)
 
 pub overflow_mul-room-2 : goal.overflow_mul-room-2
-overflow_mul-room-2 c = omega (arith, room_is c.places-size.ensures.0, c.requires.choices, search rules)
+overflow_mul-room-2 c = omega (arith, room_is c.places-size.ensures.0, c.requires.choices)
 
 pub slice_bounds-write_route-end : goal.slice_bounds-write_route-end
 slice_bounds-write_route-end c = omega (arith, room_is c.places-size.ensures.0, c.requires.choices)

@@ -7,7 +7,7 @@ use borrow.Author.Rules.{rules}
 use Rattle.unfold.proofs.bottom.entry_of.Goals as goal
 
 pub overflow_add-row : goal.overflow_add-row
-overflow_add-row c = omega (arith, entry_below c.places.ensures.0 _ _ c.row_of-row.ensures.1 c.number_of-2.ensures.1, c.requires.3, search rules)
+overflow_add-row c = omega (arith, entry_below c.places.ensures.0 _ _ c.row_of-row.ensures.1 c.number_of-2.ensures.1, c.requires.3)
 
 pub read-requires : goal.read-requires
 read-requires c = let l = entry_below c.places.ensures.0 _ _ c.row_of-row.ensures.1 c.number_of-2.ensures.1 in (omega (arith, l, c.requires.3), omega (arith, l, c.requires.4))

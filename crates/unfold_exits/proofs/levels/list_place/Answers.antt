@@ -9,7 +9,7 @@ pub returns-then-size-e : goal.returns-then-size-e
 returns-then-size-e c = place_past c.requires.2 c.if-size-e.true
 
 pub returns-then-not-is_marked : goal.returns-then-not-is_marked
-returns-then-not-is_marked c = place_unmarked c.requires.2 _ c.is_marked.ensures (not-true _ c.if-not-is_marked.true)
+returns-then-not-is_marked c = place_unmarked c.requires.2 _ c.is_marked.ensures c.if-not-is_marked.true
 
 pub returns-then-left-told : goal.returns-then-left-told
 returns-then-left-told c = place_beyond c.requires.2 _ _ _ _ (c.index.ensures ∙ c.entry.ensures.0) c.row_of.ensures.0 c.told_at-told.ensures.0 c.left_at-left.ensures.0 c.if-left-told.true
@@ -18,4 +18,4 @@ pub returns : goal.returns
 returns c =
     let p = c.requires in
     place_listed p.2 _ _ _ _ (c.index.ensures ∙ c.entry.ensures.0) c.row_of.ensures.0 c.told_at-told.ensures.0 c.left_at-left.ensures.0
-    _ _ p.1 (omega arith) p.0.square.small c.is_marked.ensures (not-false _ c.if-not-is_marked.false) (omega arith) c.add_exit.ensures.0 c.add_exit.ensures.1
+    _ _ p.1 (omega arith) p.0.square.small c.is_marked.ensures c.if-not-is_marked.false (omega arith) c.add_exit.ensures.0 c.add_exit.ensures.1

@@ -18,7 +18,7 @@ returns-then-k-eq0 c =
     pick_bottom c.args.k c.requires.1 _ _ c.record_length-length.ensures.0 refl c.requires.0 c.if-k-eq0.true (rw c.nothing.ensures at c.look_level-on.ensures) c.look_tunnel-into.ensures
 
 pub overflow_add-o : goal.overflow_add-o
-overflow_add-o c = omega (arith, record_room c.requires.1 _ _ c.record_length-length.ensures.0 refl, search rules)
+overflow_add-o c = omega (arith, record_room c.requires.1 _ _ c.record_length-length.ensures.0 refl)
 
 pub entry-hidden-requires : goal.entry-hidden-requires
 entry-hidden-requires c = omega (arith, record_room c.requires.1 _ _ c.record_length-length.ensures.0 refl)
