@@ -1,7 +1,7 @@
 // What the programs share: net.tsv is loaded, and a reply that is no trace and no normal file is written.
 #![tactic(auto)]
 
-ghost use Rattle.std.specs.Prelude.{[], ◌∷◌, ◌≤◌, ◌<◌, IfOk, take, length};
+ghost use Rattle.std.specs.Prelude.{ℕ, [], ◌∷◌, ◌≤◌, ◌<◌, IfOk, OnErr, take, length};
 ghost use Rattle.std.specs.Io.KnownBytes.{Consumes, IsAtEnd};
 ghost use Rattle.paper.specs.Text.{decimal, written};
 ghost use Rattle.digits.specs.Write.{Put};
@@ -11,11 +11,12 @@ use std::io::Read;
 use std::rt::Files;
 use std::{fs, io};
 
-// As much of the input as the room holds, and how much that is.
+// As much of the input as the room holds, and how much that is. What was read before an error stands in the room too.
 pub fn read_full<R: Read>(input: &mut R, room: &mut [u8]) -> io::Result<usize>
     ensures fits { IfOk result (λ n. n ≤ length room.new) }
     ensures bytes { IfOk result (λ n. Consumes (R.remaining input.old) (R.remaining input.new) (take n room.new)) }
     ensures end { IfOk result (λ n. n < length room.new → IsAtEnd (R.remaining input.new)) }
+    ensures err { OnErr result ((n : ℕ) × (n ≤ length room.new) × Consumes (R.remaining input.old) (R.remaining input.new) (take n room.new)) }
 {
     let mut at: usize = 0;
     while at < room.len() {

@@ -1,14 +1,14 @@
-use borrow.Author.Rules.{rules}
-use mathlib.Core.Path.{◌≡◌}
-use mathlib.Core.Bool.{true}
-use Prim.Native.Nat.{◌≤◌, ◌-◌}
-use lib.ListN.{length}
+-- The loop keeps: the tables are ready, line counts the lines before byte at. Assumes nothing.
+use Rattle.std.proofs.Common.{◌≡◌, true, ◌≤◌, ◌-◌, length}
 use Rattle.enquiry.specs.Ready.{Ready}
 use Rattle.route.proofs.serve.Given as goal
 
 abbrev pub invariant-loop-at : goal.invariant-loop-at
-invariant-loop-at l =
-    (l.tabled ≡ true → Ready l.net l.weight l.count l.step) × (l.line ≤ length l.input) × (line ≤ l.line) × (length l.input ≤ 65536) × (length l.step ≡ length l.initial.choice) × (length l.text ≡ 16384) × (length l.at ≡ 65536)
+invariant-loop-at g l = record {
+  ready : l.tabled ≡ true → Ready l.net l.weight l.count l.choice;
+  within : l.at ≤ length l.input;
+  line_bound : l.line ≤ l.at;
+}
 
 abbrev pub decreases-loop-at : goal.decreases-loop-at
-decreases-loop-at l = length l.input - l.line
+decreases-loop-at g l = length l.input - l.at
