@@ -13,11 +13,11 @@ use Rattle.tables_sweeps.proofs.Quiet.{not_both}
 use Rattle.tables_sweeps.proofs.Passes.{passing_over}
 use Rattle.tables_ways.specs.Asked.{Sweeping}
 
-pub marked : (H : List ℕ) (r stamp : ℕ) (b : Bool) → not b ≡ false → set H r stamp ≡ cond b (set H r stamp) H
+pub marked : (H : List ℕ) (r stamp : ℕ) (b : Bool) → b ≡ true → set H r stamp ≡ cond b (set H r stamp) H
 marked H r stamp true e = refl
 marked H r stamp false e = absurd (let z : ◌≡◌ {A = ℕ} 0 1 = cc in omega arith)
 
-pub unmarked : (H : List ℕ) (r stamp : ℕ) (b : Bool) → not b ≡ true → H ≡ cond b (set H r stamp) H
+pub unmarked : (H : List ℕ) (r stamp : ℕ) (b : Bool) → b ≡ false → H ≡ cond b (set H r stamp) H
 unmarked H r stamp true e = absurd (let z : ◌≡◌ {A = ℕ} 0 1 = cc in omega arith)
 unmarked H r stamp false e = refl
 

@@ -43,7 +43,7 @@ module _ (g W C : List ℕ) where
 
   -- of the steps from `at` that pass there, the one of least key, which leads to `to`
   abbrev pub PickedIn : (L : List ℕ) (k : ℕ) (at : Spot) → Key → (to : Spot) → Type 0
-  PickedIn L k at key to = Picked (hop_in g) (nodes g) (protocols g) (table_in g W C) (level_in g L k) (beneath_in g L k) at.node at.protocol at.weight at.left key to.node to.protocol to.weight to.left
+  PickedIn L k at j to = Picked (hop_in g) (nodes g) (protocols g) (table_in g W C) (level_in g L k) (beneath_in g L k) at.node at.protocol at.weight at.left j to.node to.protocol to.weight to.left
 
   -- the step picked, by its key as the step room spells it
   pub record Taken (L : List ℕ) (k : ℕ) (at : Spot) (s : Step) : Type 0 where
