@@ -1,5 +1,4 @@
 -- The loop keeps: a is within the cases. Assumes nothing.
-use borrow.Author.Rules.{rules}
 use Prim.Native.Nat.{◌≤◌, ◌-◌}
 use lib.ListN.{length}
 use Rattle.file_cases.proofs.all.Given as goal

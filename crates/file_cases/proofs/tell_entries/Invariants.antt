@@ -1,5 +1,4 @@
 -- The loop counts up to k. Assumes nothing.
-use borrow.Author.Rules.{rules}
 use Prim.Native.Nat.{◌≤◌, ◌-◌}
 use Rattle.file_cases.proofs.tell_entries.Given as goal
 

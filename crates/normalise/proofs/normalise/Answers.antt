@@ -1,4 +1,3 @@
-use borrow.Author.Rules.{rules}
 use Rattle.normalise.proofs.Bounds.{in_room}
 use Rattle.normalise.proofs.normalise.Goals as goal
 

@@ -2,4 +2,4 @@ use borrow.Author.Rules.{rules}
 use Rattle.route.proofs.judge.Goals as goal
 
 pub listen-requires : goal.listen-requires
-listen-requires c = (c.load-j.ensures.holds c.if-j-ne0.false).arranged
+listen-requires g c = (c.load-j.ensures.holds c.if-j-ne0.false).arranged

@@ -6,13 +6,13 @@ use borrow.Author.Rules.{rules}
 use Rattle.route.proofs.tabulate.Goals as goal
 
 pub serve-requires : goal.serve-requires
-serve-requires c = record { arranged = (c.requires.arranged, λ t. absurd (true≢false (sym t))); input_len_bound = c.requires.input_len_bound }
+serve-requires g c = record { arranged = (c.requires.arranged, λ t. absurd (true≢false (sym t))); input_len_bound = c.requires.input_len_bound }
 
 pub fill-requires : goal.fill-requires
-fill-requires c = small _ _ _ _ _ c.requires.arranged c.places.ensures.0 c.if-places-gt-PLACES.false refl refl refl
+fill-requires g c = small _ _ _ _ _ c.requires.arranged c.places.ensures.0 c.if-places-gt-PLACES.false refl refl refl
 
 pub serve-requires-2 : goal.serve-requires-2
-serve-requires-2 c =
+serve-requires-2 g c =
     let p = c.requires in
     let filled = c.fill.ensures in
     record { arranged = (p.arranged, λ t. made_ready _ _ _ _ _ _ _ (small _ _ _ _ _ c.requires.arranged c.places.ensures.0 c.if-places-gt-PLACES.false refl refl refl) filled.tabled filled.filled); input_len_bound = p.input_len_bound }
