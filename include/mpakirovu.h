@@ -2,7 +2,7 @@
 
    C99, usable from C++. The library needs nothing beside the C library; link it by
 
-       cc -std=c99 -Iinclude host.c target/staticlib/libmpakirovu.a
+       cc -std=c99 -Iinclude host.c crates/mpakirovu/out/libmpakirovu.a
 
    1. WORDS
 

@@ -51,7 +51,7 @@ module _ (g : List ℕ) where
           still = λ v. done_still g v stamp since W C H W' C' H' r (swept g v stamp since back W C H W' C' H' r (s.sound v) e) done f;
         }
 
-    pub left_less : (W₀ C₀ H₀ : List ℕ) (before : Bool) (next : ℕ) → Settling W₀ C₀ H₀ W C H before → not before ≡ true → next ≡ cond r stamp 0 → left W' C' next done < left W C since before
+    pub left_less : (W₀ C₀ H₀ : List ℕ) (before : Bool) (next : ℕ) → Settling W₀ C₀ H₀ W C H before → before ≡ false → next ≡ cond r stamp 0 → left W' C' next done < left W C since before
     left_less W₀ C₀ H₀ true next s b h = absurd (let z : ◌≡◌ {A = ℕ} 0 1 = cc in omega arith)
     left_less W₀ C₀ H₀ false next s b h =
         left_falls g known stamp since W C H W' C' H' r (swept g known stamp since back W C H W' C' H' r (s.sound known) e) done next f h

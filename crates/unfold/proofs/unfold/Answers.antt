@@ -29,5 +29,5 @@ returns c =
     let size = c.places-size.result in
     record {
       route = r.ensures;
-      choices = c.clear.ensures ∙ part_cleared c.args.choice.now r.new.1.1.1.0 (8 * (size * size)) (8 * (size * size) - 0) (room_is c.places-size.ensures.0) (omega arith) c.requires.choices r.auto.choice;
+      choices = c.clear.ensures ∙ part_cleared c.args.choice.now r.new.choice (8 * (size * size)) (8 * (size * size) - 0) (room_is c.places-size.ensures.0) (omega arith) c.requires.choices r.auto.choice;
     }

@@ -15,7 +15,7 @@ pub sweep_all-fell-requires : goal.sweep_all-fell-requires
 sweep_all-fell-requires c =
     let k = c.loop-done.invariant in
     let b = c.prepare.auto in
-    still_sweeping _ _ _ c.requires (k.kept.same_ws ∙ b.0) (k.kept.same_cs ∙ b.1.0) k.stamps
+    still_sweeping _ _ _ c.requires (k.kept.same_ws ∙ b.weight) (k.kept.same_cs ∙ b.count) k.stamps
 
 pub loop-done-smaller : goal.loop-done-smaller
 loop-done-smaller c = left_less _ _ _ _ _ _ _ _ _ _ _ _ c.requires.arranged c.sweep_all-fell.ensures refl _ _ _ _ _ c.loop-done.invariant c.loop-done-test.true c.since_when-since.ensures
@@ -24,4 +24,4 @@ pub loop-done-preserved : goal.loop-done-preserved
 loop-done-preserved c = settling_turn _ _ _ _ _ _ _ _ _ _ _ _ c.requires.arranged c.sweep_all-fell.ensures refl _ _ _ _ c.loop-done.invariant c.sweep_all-fell.auto.stamps
 
 pub returns : goal.returns
-returns c = settled _ _ _ _ _ _ _ _ _ _ c.requires.arranged c.requires.roomy (rw c.places.ensures.0 at c.prepare.ensures) _ c.loop-done.invariant (not-false _ c.loop-done-test.false)
+returns c = settled _ _ _ _ _ _ _ _ _ _ c.requires.arranged c.requires.roomy (rw c.places.ensures.0 at c.prepare.ensures) _ c.loop-done.invariant c.loop-done-test.false

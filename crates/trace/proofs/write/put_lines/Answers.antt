@@ -1,34 +1,27 @@
-use Rattle.std.proofs.Common.{rules, [], ◌∷◌, ◌+◌, ◌≤◌, length, ◌≡◌, ℕ, ◌-◌, ◌*◌, ◌<◌, ◌/◌, ◌%◌, Bool, true, false, nat_eq, nat_lt, List, ◌++◌, slice_index_or, slice_set, bit_and, bit_or, Fits, w8, w32, w64, Bor, MutBor}
-use Rattle.paper.specs.Limits.{longest}
-use Rattle.paper.specs.Text.{decimal, written, path_word}
-use Rattle.paper.specs.Trace.{step_lines, trace}
-use Rattle.digits.specs.Write.{Put}
-use Rattle.network.specs.Network.{hop_in}
-use Rattle.trace_replay.specs.Keys.{keys_at}
-use Rattle.trace_replay.specs.Packet.{source, Route}
-use Rattle.trace.specs.Lines.{lines_from, Writable, Written, Begun}
+use Rattle.std.proofs.Common.{rules, arith, ◌≡◌, length}
+use Rattle.trace_stack.specs.Items.{highest}
+use Rattle.trace.proofs.Replays.{set_out, turn_top, turn_ready, turn_writable, turn_written, finish}
 use Rattle.trace.proofs.write.put_lines.Goals as goal
 
--- src/write.rt:69:5
 pub loop-i-init : goal.loop-i-init
-loop-i-init c = ?
+loop-i-init c = set_out c.requires
 
--- src/write.rt:71:13
 pub outer_at-y-requires : goal.outer_at-y-requires
-outer_at-y-requires c = ?
+outer_at-y-requires c = (omega (arith, c.requires.room), turn_top c.requires _ c.loop-i-test.true c.loop-i.invariant)
 
--- src/write.rt:72:9
 pub step_in-requires : goal.step_in-requires
-step_in-requires c = ?
+step_in-requires c = rw (c.kind_at-kind.ensures, c.outer_at-y.ensures) (turn_ready c.requires _ c.loop-i-test.true c.loop-i.invariant)
 
--- src/write.rt:73:9
 pub put_line-t-requires : goal.put_line-t-requires
-put_line-t-requires c = ?
+put_line-t-requires c =
+    let done = rw (c.kind_at-kind.ensures, c.outer_at-y.ensures) at c.step_in.ensures in
+    let full : length c.step_in.new.s.cells ≡ highest = search rules in
+    turn_writable c.requires _ c.loop-i-test.true c.loop-i.invariant c.step_in.new.s done full
 
--- src/write.rt:69:5
 pub loop-i-preserved : goal.loop-i-preserved
-loop-i-preserved c = ?
+loop-i-preserved c =
+    let done = rw (c.kind_at-kind.ensures, c.outer_at-y.ensures) at c.step_in.ensures in
+    turn_written c.requires _ c.loop-i-test.true c.loop-i.invariant c.step_in.new.s done c.put_line-t.ensures
 
--- src/write.rt:55:1
 pub returns : goal.returns
-returns c = ?
+returns c = finish c.requires c.loop-i.i (omega arith) c.loop-i.invariant

@@ -21,8 +21,8 @@ level-tunnel-here-requires t c =
     let l = c.loop-here in
     let k = c.pick-s in
     (omega (arith, c.decreases, l.invariant.moved.leads.counts),
-     (went_asks p.0 l.invariant l.auto.choice l.auto.steps, omega (arith, p.1, l.auto.exits, k.auto.exits), omega (arith, p.2, l.auto.outs, k.auto.outs)),
-     (c.if-kind-eq1.true, k.ensures))
+     ((went_asks p.0 l.invariant l.auto.choice l.auto.steps, omega (arith, p.1, l.auto.exits, k.auto.exits), omega (arith, p.2, l.auto.outs, k.auto.outs)),
+      (c.if-kind-eq1.true, k.ensures)))
 
 pub level-loop-here-preserved-then-kind-eq1 : goal.level-loop-here-preserved-then-kind-eq1
 level-loop-here-preserved-then-kind-eq1 t c = went_then c.requires.0 c.loop-here.invariant c.tunnel-here.ensures.went
