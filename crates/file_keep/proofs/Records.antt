@@ -10,7 +10,6 @@ use lib.Dec.{leb}
 use lib.ListN.{length, get_or}
 use borrow.Author.Tests.{leb-false}
 use Rattle.paper.specs.Net.{before, code, Link, link, Fun, fun, Net, net}
-use Rattle.paper.specs.Text.{same}
 use Rattle.paper.specs.File.{link_key, fun_key, insert, given, link_fits, fun_fits, link_line, fun_line, bad, good, put}
 use Rattle.laws.specs.Sets.{Mem}
 use Rattle.laws.proofs.Before.{Test, holds, fails, test}

@@ -9,7 +9,7 @@ use lib.ListN.{length, take, drop}
 use lib.Seq.{sets-eq, take_at}
 use Rattle.paper.specs.Net.{Link, Fun, Net, net}
 use Rattle.paper.specs.Text.{Line, lines}
-use Rattle.paper.specs.File.{judge, refused, accepted}
+use Rattle.paper.specs.File.{judge, accepted}
 use Rattle.paper.specs.Normal.{normal}
 use Rattle.paper.specs.Rooms.{laid}
 use Rattle.paper.specs.Outcome.{Outcome, outcome, told, normally}

@@ -2,7 +2,7 @@
 -- Main result: `answers_alike`. Assumes nothing.
 use Prim.Native.Nat.{ℕ, ◌+◌, ◌*◌, ◌<◌, ◌≤◌}
 use mathlib.Core.Path.{◌≡◌, refl, sym, ◌∙◌}
-use mathlib.Core.Bool.{true, false, true≢false, ◌&&◌}
+use mathlib.Core.Bool.{true, true≢false, ◌&&◌}
 use mathlib.Core.List.{List}
 use mathlib.Core.Logic.{◌⊎◌, inl, inr}
 use mathlib.Core.Option.{Option}
@@ -14,7 +14,7 @@ use Rattle.paper.specs.Net.{Key}
 use Rattle.paper.specs.Route.{flat}
 use Rattle.paper.specs.Trace.{trace}
 use Rattle.paper.specs.Rooms.{laid, Tabled}
-use Rattle.paper.specs.Outcome.{Outcome, outcome, Rooms, rooms, most_steps, roomy, Found, Ends, eight, nine, ten, eleven, zero as found, Answers, six, seven, on}
+use Rattle.paper.specs.Outcome.{Outcome, outcome, rooms, most_steps, roomy, Found, Ends, eight, nine, ten, eleven, zero as found, Answers, six, seven, on}
 use Rattle.laws.proofs.Before.{and_right}
 use Rattle.laws.proofs.Laid.{laid_there}
 use Rattle.laws.proofs.Parts.{flat_length}

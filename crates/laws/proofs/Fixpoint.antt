@@ -11,7 +11,7 @@ use Rattle.paper.specs.Route.{Feasible}
 use Rattle.laws.specs.Level.{Level, stay, carry, tunnel, keys, weight}
 use Rattle.laws.specs.Value.{Value, never, cap, Le, plus, Entry}
 use Rattle.laws.proofs.Parse.{parse, sound_feasible}
-use Rattle.laws.proofs.Cap.{le_trans_v, join, step_join, holds}
+use Rattle.laws.proofs.Cap.{le_trans_v, join, step_join}
 
 module _ (hop : Key → ℕ → Option (ℕ × ℕ)) (n p : ℕ) where
   -- every step leads to a place: node below n, protocols below p

@@ -4,14 +4,14 @@ use mathlib.Core.Path.{◌≡◌, refl, sym, ◌∙◌, subst}
 use mathlib.Core.Bool.{Bool, true, false, not}
 use mathlib.Core.List.{List, [], ◌∷◌, ◌++◌, map}
 use mathlib.Core.Logic.{◌⊎◌, inl, inr}
-use Prim.Native.Nat.{ℕ, suc, ◌+◌, ◌<◌, ◌≤◌}
+use Prim.Native.Nat.{ℕ, suc, ◌<◌, ◌≤◌}
 use native.Mathlib.Omega.{arith}
 use lib.Dec.{leb}
 use lib.ListN.{length}
 use borrow.Author.Tests.{leb-false, lt-leb}
 use Rattle.paper.specs.Net.{Link, Fun, Net, net}
 use Rattle.paper.specs.Text.{Line, ended, cut, fields}
-use Rattle.paper.specs.File.{link_key, fun_key, net_fits, link_fits, fun_fits, insert, given, Shape, misshapen, net_line, link_line, fun_line, shaped, shape, Kept, bad, good, header, put, onward, refused, accepted}
+use Rattle.paper.specs.File.{link_key, fun_key, net_fits, link_fits, fun_fits, insert, given, Shape, misshapen, net_line, link_line, fun_line, shaped, shape, Kept, bad, good, put, onward, refused, accepted}
 use Rattle.laws.specs.Sets.{Mem, Perm, none, keep, swap, both}
 use Rattle.laws.proofs.Before.{Test, holds, fails, test, not-true}
 use Rattle.laws.proofs.Insert.{perm_refl, perm_middle, perm_front, perm_back, length_insert, insert_perm, swapped, Sorted, mem_insert, sorted_insert}

@@ -4,14 +4,14 @@ use mathlib.Core.Path.{◌≡◌, refl, ap, ◌∙◌}
 use mathlib.Core.Bool.{true, ◌&&◌}
 use mathlib.Core.List.{List, [], ◌∷◌, ◌++◌}
 use mathlib.Core.Option.{Option, none, some, none-ne-some, some-injective}
-use Prim.Native.Nat.{ℕ, ◌+◌, ◌*◌, ◌<◌, ◌≤◌}
+use Prim.Native.Nat.{ℕ, ◌*◌, ◌<◌, ◌≤◌}
 use native.Mathlib.Omega.{arith}
 use lib.Dec.{eqb, leb, ltb}
 use lib.ListN.{length}
 use borrow.Author.Tests.{eqb-true, leb-true, ltb-true}
 use Rattle.paper.specs.Net.{Kind, conv, wrap, unwrap, Link, link, Fun, fun}
 use Rattle.paper.specs.Text.{fields, number, decimal, same, net_word, link_word, fun_word, conv_word, wrap_word, unwrap_word, tabbed}
-use Rattle.paper.specs.File.{net_fits, link_fits, fun_fits, Shape, misshapen, net_line, link_line, fun_line, kind_of, net_of, link_of, fun_of, field, shaped, shape}
+use Rattle.paper.specs.File.{net_fits, link_fits, fun_fits, Shape, misshapen, net_line, link_line, fun_line, kind_of, net_of, link_of, fun_of, field, shaped}
 use Rattle.paper.specs.Normal.{kind_word}
 use Rattle.laws.proofs.Before.{Test, holds, fails, test, and_left, and_right, same_eq}
 use Rattle.laws.proofs.Spelling.{one_spelling, Parted, parted, fields_parted}

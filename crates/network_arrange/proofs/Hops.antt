@@ -1,5 +1,5 @@
 -- Two networks with the same records lead the same ways, in whatever order the records stand. Assumes nothing.
-use Prim.Native.Nat.{ℕ, ◌+◌, ◌*◌, ◌<◌}
+use Prim.Native.Nat.{ℕ, ◌+◌, ◌<◌}
 use mathlib.Core.Path.{◌≡◌, refl, sym, ap, ◌∙◌, fun_ext}
 use mathlib.Core.List.{List}
 use mathlib.Core.Option.{Option, none, some}

@@ -4,7 +4,7 @@ use Rattle.std.specs.Prelude.{ℕ, ◌+◌, ◌*◌, ◌<◌, ◌≤◌, ◌≡�
 use Rattle.std.proofs.Math.Option.{Option}
 use Rattle.std.proofs.lemmas.List.Edits.{sets}
 use Rattle.paper.specs.Limits.{heaviest, longest, over_mark, never_mark, long_mark}
-use Rattle.paper.specs.Net.{Key, hop, place}
+use Rattle.paper.specs.Net.{Key, place}
 use Rattle.paper.specs.Route.{Feasible}
 
 -- the room d with s laid over it from entry i on; every other entry is as it was

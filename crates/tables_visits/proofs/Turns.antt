@@ -1,7 +1,7 @@
 -- What the proofs of the code cite: one law for each function, over plain variables. Assumes nothing.
 use Prim.Native.Nat.{ℕ, ◌<◌, ◌-◌}
 use mathlib.Core.Path.{◌≡◌, refl, sym, ◌∙◌}
-use mathlib.Core.Bool.{Bool, true, false, cond, not, ◌||◌}
+use mathlib.Core.Bool.{Bool, true, false, cond, ◌||◌}
 use mathlib.Core.List.{List}
 use native.Mathlib.Omega.{arith}
 use lib.ListN.{length, set}

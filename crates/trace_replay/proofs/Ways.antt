@@ -16,7 +16,7 @@ use Rattle.laws.proofs.Depth.{peak_half}
 use Rattle.network_records.specs.Columns.{kind_of_code}
 use Rattle.trace_stack.specs.Items.{highest, beneath, acted, height_after}
 use Rattle.trace_stack.proofs.Cells.{act_acted}
-use Rattle.network.specs.Network.{nodes, protocols, hop_in, Within}
+use Rattle.network.specs.Network.{nodes, hop_in, Within}
 use Rattle.network.specs.Arranged.{Arranged}
 use Rattle.network.proofs.Steps.{found, steps_inside}
 use Rattle.trace_replay.specs.declared.packet.Packet.{Packet}

@@ -5,7 +5,7 @@ use Rattle.paper.specs.Limits.{longest}
 use Rattle.paper.specs.Net.{Key, key}
 use Rattle.paper.specs.Route.{At, at, replay}
 use Rattle.paper.specs.declared.place.Place.{Place}
-use Rattle.laws.specs.Peak.{height, peak}
+use Rattle.laws.specs.Peak.{peak}
 use Rattle.trace_stack.specs.Items.{below, highest, height_after}
 use Rattle.network.specs.Network.{nodes, hop_in, Within}
 use Rattle.network.specs.Arranged.{Arranged}

@@ -4,7 +4,7 @@ use mathlib.Core.Path.{◌≡◌, sym, ap, ◌∙◌}
 use mathlib.Core.Bool.{Bool}
 use mathlib.Core.List.{List, [], ◌++◌}
 use mathlib.Core.Option.{Option}
-use mathlib.Core.Logic.{◌⊎◌, ◌↔◌, ⊎_elim}
+use mathlib.Core.Logic.{◌↔◌, ⊎_elim}
 use native.Mathlib.Omega.{arith}
 use native.Mathlib.Nat.{le_refl, div-add-mod, mul-le-mul, mul-le-mul_right}
 use lib.Dec.{T}

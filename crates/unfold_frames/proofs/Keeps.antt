@@ -9,7 +9,7 @@ use native.Mathlib.Nat.{div-add-mod}
 use lib.Dec.{T, ltb, ltb→lt}
 use lib.ListN.{length, get_or}
 use Rattle.paper.specs.Net.{place}
-use Rattle.unfold_frames.specs.Frames.{bit, blank, mark, held_at, held, below, Kept}
+use Rattle.unfold_frames.specs.Frames.{bit, mark, held_at, held, below, Kept}
 
 module _ (p words : ℕ) where
   -- ## The same entries, the same records

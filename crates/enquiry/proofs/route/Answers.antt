@@ -1,5 +1,4 @@
 use Rattle.enquiry.proofs.Routing.{routed_bad, routed_good}
-use borrow.Author.Rules.{rules}
 use Rattle.enquiry.proofs.route.Goals as goal
 
 pub returns-then-j-ne0 : goal.returns-then-j-ne0

@@ -1,6 +1,5 @@
 -- The line ends where the first LF is found, or where the file ends. Assumes nothing.
 use native.Mathlib.Omega.{arith}
-use borrow.Author.Rules.{rules}
 use Rattle.file_cursor.proofs.line_at.Goals as goal
 
 pub returns-then-e-size : goal.returns-then-e-size

@@ -1,10 +1,7 @@
 -- The loop keeps: the fields from s on are those from field i on. Assumes nothing.
 use mathlib.Core.Path.{◌≡◌}
 use Prim.Native.Nat.{◌≤◌, ◌+◌, ◌-◌}
-use native.Mathlib.Omega.{arith}
 use Rattle.file_fields.specs.Fields.{fields_from, fields_after}
-use Rattle.file_fields.proofs.Walk.{walk_start, walk_on, walk_end}
-use borrow.Author.Rules.{rules}
 use Rattle.file_fields.proofs.field_at.Given as goal
 
 abbrev pub invariant-loop-i : goal.invariant-loop-i

@@ -4,7 +4,6 @@ use Prim.Native.Nat.{ℕ}
 use mathlib.Core.List.{List}
 use Rattle.paper.specs.Text.{same}
 use Rattle.file_fields.proofs.Walk.{no_word, field_in}
-use borrow.Author.Rules.{rules}
 use Rattle.file_fields.proofs.field_is.Goals as goal
 
 pub returns-then-e-s : goal.returns-then-e-s

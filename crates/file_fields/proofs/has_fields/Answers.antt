@@ -1,6 +1,5 @@
 -- The walk stands at the last of k fields, and there is no field behind it. Assumes nothing.
 use Rattle.file_fields.proofs.Walk.{too_few, just_enough}
-use borrow.Author.Rules.{rules}
 use Rattle.file_fields.proofs.has_fields.Goals as goal
 
 pub returns-then-e-last : goal.returns-then-e-last

@@ -1,12 +1,9 @@
 -- The loop keeps: the part is the word if what is left of both from byte i on is the same. Assumes nothing.
-use mathlib.Core.Path.{◌≡◌, sym, ◌∙◌}
+use mathlib.Core.Path.{◌≡◌}
 use Prim.Native.Nat.{◌≤◌, ◌+◌, ◌-◌}
-use native.Mathlib.Omega.{arith}
 use lib.ListN.{length, drop}
 use Rattle.paper.specs.Text.{same}
 use Rattle.digits.specs.Read.{part}
-use Rattle.file_fields.proofs.Words.{word_on, word_off, word_end, word_length, word_start}
-use borrow.Author.Rules.{rules}
 use Rattle.file_fields.proofs.is_word.Given as goal
 
 abbrev pub invariant-loop-i : goal.invariant-loop-i

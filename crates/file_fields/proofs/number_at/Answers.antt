@@ -5,7 +5,6 @@ use mathlib.Core.List.{List}
 use Rattle.paper.specs.Text.{number}
 use Rattle.digits.specs.Read.{told}
 use Rattle.file_fields.proofs.Walk.{no_number, field_in}
-use borrow.Author.Rules.{rules}
 use Rattle.file_fields.proofs.number_at.Goals as goal
 
 pub returns-then-e-s : goal.returns-then-e-s

@@ -1,9 +1,7 @@
 -- The loop keeps: the fields before the i-th are numbers, and stand in the room. Assumes nothing.
 use mathlib.Core.Path.{sym, ◌∙◌}
-use Prim.Native.Nat.{◌-◌}
-use lib.ListN.{length}
 use native.Mathlib.Omega.{arith}
-use Rattle.file_fields.proofs.Numbers.{SoFar, one_more, one_less, all_numbers, one_is_none}
+use Rattle.file_fields.proofs.Numbers.{one_more, one_less, all_numbers, one_is_none}
 use borrow.Author.Rules.{rules}
 use Rattle.file_fields.proofs.numbers_at.Goals as goal
 

@@ -1,10 +1,7 @@
 -- The loop keeps: the fields before the i-th are numbers, and stand in the room. Assumes nothing.
-use mathlib.Core.Path.{sym, ◌∙◌}
 use Prim.Native.Nat.{◌-◌}
 use lib.ListN.{length}
-use native.Mathlib.Omega.{arith}
-use Rattle.file_fields.proofs.Numbers.{SoFar, one_more, one_less, all_numbers, one_is_none}
-use borrow.Author.Rules.{rules}
+use Rattle.file_fields.proofs.Numbers.{SoFar}
 use Rattle.file_fields.proofs.numbers_at.Given as goal
 
 abbrev pub invariant-loop-i : goal.invariant-loop-i

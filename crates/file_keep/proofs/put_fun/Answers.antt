@@ -1,9 +1,7 @@
 -- A function added as a row of five is the function inserted; its kind is kept as a code. Assumes nothing.
 use mathlib.Core.Path.{sym, ◌∙◌}
 use native.Mathlib.Omega.{arith}
-use borrow.Author.Tests.{not-true, not-false}
 use Rattle.file_keep.proofs.Records.{past_none, added_order, added_past, fun_wide, fun_added, fun_coded}
-use borrow.Author.Rules.{rules}
 use Rattle.file_keep.proofs.put_fun.Goals as goal
 
 pub returns-then-not-fun_fits : goal.returns-then-not-fun_fits

@@ -1,9 +1,7 @@
 -- A link added as a row of four is the link inserted. Assumes nothing.
 use mathlib.Core.Path.{sym, ◌∙◌}
 use native.Mathlib.Omega.{arith}
-use borrow.Author.Tests.{not-true, not-false}
 use Rattle.file_keep.proofs.Records.{past_none, added_order, added_past, link_wide, link_added}
-use borrow.Author.Rules.{rules}
 use Rattle.file_keep.proofs.put_link.Goals as goal
 
 pub returns-then-not-link_fits : goal.returns-then-not-link_fits

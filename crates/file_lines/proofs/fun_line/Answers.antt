@@ -1,6 +1,5 @@
 use mathlib.Core.Path.{sym, ◌∙◌}
 use Rattle.file_lines.proofs.Told.{no_node, no_kind, fun_all, fun_lacks}
-use borrow.Author.Rules.{rules}
 use Rattle.file_lines.proofs.fun_line.Goals as goal
 
 pub returns-in_default : goal.returns-in_default

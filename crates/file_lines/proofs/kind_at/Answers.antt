@@ -1,7 +1,6 @@
 -- One word after another is compared; the first that fits gives its code. Assumes nothing.
 use Rattle.paper.specs.Text.{conv_word, wrap_word, unwrap_word}
 use Rattle.file_lines.proofs.Told.{kind_conv, kind_wrap, kind_unwrap, kind_none}
-use borrow.Author.Rules.{rules}
 use Rattle.file_lines.proofs.kind_at.Goals as goal
 
 pub returns-then-field_is : goal.returns-then-field_is

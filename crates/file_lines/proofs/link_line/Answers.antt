@@ -1,5 +1,4 @@
 use Rattle.file_lines.proofs.Told.{link_all, link_lacks}
-use borrow.Author.Rules.{rules}
 use Rattle.file_lines.proofs.link_line.Goals as goal
 
 pub returns-then-numbers_at : goal.returns-then-numbers_at

@@ -1,5 +1,4 @@
 use Rattle.file_lines.proofs.Told.{net_all, net_lacks}
-use borrow.Author.Rules.{rules}
 use Rattle.file_lines.proofs.net_line.Goals as goal
 
 pub returns-then-numbers_at : goal.returns-then-numbers_at

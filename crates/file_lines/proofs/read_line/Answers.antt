@@ -2,7 +2,6 @@
 use mathlib.Core.Path.{sym, ◌∙◌}
 use Rattle.paper.specs.Text.{net_word, link_word, fun_word}
 use Rattle.file_lines.proofs.Told.{net_shape, link_shape, fun_shape, no_shape, none_said}
-use borrow.Author.Rules.{rules}
 use Rattle.file_lines.proofs.read_line.Goals as goal
 
 pub returns-then-has_fields : goal.returns-then-has_fields

@@ -2,7 +2,6 @@
 use mathlib.Core.Path.{refl}
 use native.Mathlib.Omega.{arith}
 use Rattle.file_read.proofs.File.{file_large, file_empty, file_refused, file_accepted, refuses, read_valid}
-use borrow.Author.Rules.{rules}
 use Rattle.file_read.proofs.read.Goals as goal
 
 pub returns-then-file-gt-MOST_BYTES : goal.returns-then-file-gt-MOST_BYTES

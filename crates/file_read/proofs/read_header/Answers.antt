@@ -1,7 +1,6 @@
 -- What is said of the first line decides as the line does. Assumes nothing.
 use mathlib.Core.Path.{sym, ◌∙◌}
 use Rattle.file_read.proofs.Told.{opens_net, opens_wide, opens_bad, header_link, header_fun, header_none}
-use borrow.Author.Rules.{rules}
 use Rattle.file_read.proofs.read_header.Goals as goal
 
 pub returns-then-net_fits : goal.returns-then-net_fits

@@ -1,4 +1,4 @@
-use Rattle.std.proofs.Common.{rules, arith, ◌≡◌, ◌∙◌, ap, List, ℕ, Bor}
+use Rattle.std.proofs.Common.{arith, ◌∙◌, ap, List, ℕ, Bor}
 use Rattle.file_read.proofs.Turns.{stands_first, stands_here, stands_end}
 use Rattle.file_read.proofs.read_lines.Goals as goal
 

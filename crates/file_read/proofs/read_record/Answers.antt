@@ -4,7 +4,6 @@ use native.Mathlib.Omega.{arith}
 use Rattle.network_records.specs.Columns.{net_of}
 use Rattle.file_read.proofs.Told.{said_link, said_fun, said_code, said_net, said_none}
 use Rattle.file_read.proofs.Turns.{grown_link, grown_fun}
-use borrow.Author.Rules.{rules}
 use Rattle.file_read.proofs.read_record.Goals as goal
 
 pub put_fun-number-requires : goal.put_fun-number-requires

@@ -1,5 +1,4 @@
 use Rattle.file_read.proofs.Turns.{turned_first, turned_below}
-use borrow.Author.Rules.{rules}
 use Rattle.file_read.proofs.read_turn.Goals as goal
 
 pub returns-then-a-eq0 : goal.returns-then-a-eq0

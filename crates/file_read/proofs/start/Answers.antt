@@ -1,6 +1,5 @@
 use mathlib.Core.Path.{ap}
 use Rattle.network_records.specs.declared.Size.{Size}
-use borrow.Author.Rules.{rules}
 use Rattle.file_read.proofs.start.Goals as goal
 
 pub returns : goal.returns

@@ -4,7 +4,6 @@ use native.Mathlib.Omega.{arith}
 use Rattle.file_read.specs.declared.Reading.{Reading}
 use Rattle.file_read.proofs.Lines.{line_within}
 use Rattle.file_read.proofs.Turns.{still_good, stands_cut, stands_on, further}
-use borrow.Author.Rules.{rules}
 use Rattle.file_read.proofs.take_line.Goals as goal
 
 pub returns-then-e-file : goal.returns-then-e-file

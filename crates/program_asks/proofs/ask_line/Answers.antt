@@ -1,5 +1,4 @@
 use Rattle.program_asks.proofs.Asking.{asks_all, asks_lacks}
-use borrow.Author.Rules.{rules}
 use Rattle.program_asks.proofs.ask_line.Goals as goal
 
 pub returns-then-numbers_at : goal.returns-then-numbers_at

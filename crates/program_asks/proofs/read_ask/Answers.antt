@@ -1,5 +1,4 @@
 use mathlib.Core.Path.{sym, ◌∙◌}
-use borrow.Author.Rules.{rules}
 use Rattle.program_asks.proofs.Asking.{asking, not_asking, nothing_asked}
 use Rattle.program_asks.proofs.read_ask.Goals as goal
 

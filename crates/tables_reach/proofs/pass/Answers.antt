@@ -1,7 +1,6 @@
 use mathlib.Core.Path.{◌∙◌}
 use Rattle.tables_reach.proofs.Turns.{passed, no_tunnels}
 use Rattle.tables_costs.specs.Costs.{blank}
-use borrow.Author.Rules.{rules}
 use Rattle.tables_reach.proofs.pass.Goals as goal
 
 pub returns-then-next_fun-funs : goal.returns-then-next_fun-funs

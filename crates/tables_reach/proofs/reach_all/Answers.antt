@@ -1,5 +1,4 @@
 use Rattle.tables_reach.proofs.Turns.{reached_all}
-use borrow.Author.Rules.{rules}
 use Rattle.tables_reach.proofs.reach_all.Goals as goal
 
 pub returns : goal.returns

@@ -1,5 +1,4 @@
 use Rattle.tables_spread.proofs.Turns.{not_carried, carried_on}
-use borrow.Author.Rules.{rules}
 use Rattle.tables_spread.proofs.carry.Goals as goal
 
 pub returns-then-is_never : goal.returns-then-is_never

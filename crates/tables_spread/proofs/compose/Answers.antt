@@ -3,9 +3,7 @@ use borrow.Author.Rules.{rules}
 use Rattle.tables_spread.proofs.Turns.{composing}
 use Rattle.tables_sweeps.specs.Row.{composed}
 use Rattle.tables_costs.specs.Loop.{upto}
-use lib.ListN.{length}
 use mathlib.Core.Path.{◌≡◌}
-use Prim.Native.Nat.{◌-◌, ◌≤◌}
 use Rattle.tables_spread.proofs.compose.Goals as goal
 
 pub loop-q-init : goal.loop-q-init

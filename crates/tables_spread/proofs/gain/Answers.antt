@@ -1,7 +1,6 @@
 use Rattle.tables_spread.proofs.Turns.{gain_none, gain_idle, gain_some}
 use Prim.Native.Nat.{ℕ, ◌+◌}
 use mathlib.Core.Path.{ap}
-use borrow.Author.Rules.{rules}
 use Rattle.tables_spread.proofs.gain.Goals as goal
 
 pub returns-then-c-ge-FAR : goal.returns-then-c-ge-FAR

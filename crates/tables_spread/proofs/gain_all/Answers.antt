@@ -2,11 +2,9 @@ use native.Mathlib.Omega.{arith}
 use borrow.Author.Rules.{rules}
 use Rattle.tables_spread.proofs.Turns.{still_going}
 use Rattle.tables_sweeps.proofs.Loops.{turn}
-use Rattle.tables_sweeps.specs.Row.{going, goings}
+use Rattle.tables_sweeps.specs.Row.{goings}
 use Rattle.tables_costs.specs.Loop.{upto}
-use lib.ListN.{length}
 use mathlib.Core.Path.{◌≡◌}
-use Prim.Native.Nat.{◌*◌, ◌-◌, ◌≤◌}
 use Rattle.tables_spread.proofs.gain_all.Goals as goal
 
 pub loop-r-init : goal.loop-r-init

@@ -1,8 +1,4 @@
-use native.Mathlib.Omega.{arith}
-use borrow.Author.Rules.{rules}
-use Rattle.tables_spread.proofs.Turns.{still_going}
-use Rattle.tables_sweeps.proofs.Loops.{turn}
-use Rattle.tables_sweeps.specs.Row.{going, goings}
+use Rattle.tables_sweeps.specs.Row.{going}
 use Rattle.tables_costs.specs.Loop.{upto}
 use lib.ListN.{length}
 use mathlib.Core.Path.{◌≡◌}

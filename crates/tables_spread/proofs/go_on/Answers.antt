@@ -1,6 +1,5 @@
 use native.Mathlib.Omega.{arith}
 use Rattle.tables_spread.proofs.Turns.{not_on, gone_on}
-use borrow.Author.Rules.{rules}
 use Rattle.tables_spread.proofs.go_on.Goals as goal
 
 pub returns-then-c-ge-FAR : goal.returns-then-c-ge-FAR

@@ -1,5 +1,4 @@
 use Rattle.tables_spread.proofs.Turns.{idling}
-use borrow.Author.Rules.{rules}
 use Rattle.tables_spread.proofs.is_idle.Goals as goal
 
 pub returns : goal.returns

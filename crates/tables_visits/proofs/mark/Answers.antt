@@ -1,5 +1,4 @@
 use Rattle.tables_visits.proofs.Turns.{marked, unmarked}
-use borrow.Author.Rules.{rules}
 use Rattle.tables_visits.proofs.mark.Goals as goal
 
 pub returns-then-not-fell : goal.returns-then-not-fell

@@ -1,5 +1,4 @@
 use Rattle.tables_visits.proofs.Turns.{turned_back, turned_on}
-use borrow.Author.Rules.{rules}
 use Rattle.tables_visits.proofs.nth.Goals as goal
 
 pub returns-then-back : goal.returns-then-back

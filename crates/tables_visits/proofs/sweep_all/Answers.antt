@@ -2,11 +2,8 @@ use native.Mathlib.Omega.{arith}
 use borrow.Author.Rules.{rules}
 use Rattle.tables_visits.proofs.Turns.{still_sweeping, turning}
 use Rattle.tables_sweeps.proofs.Passes.{passing_start, passing_turn}
-use Rattle.tables_sweeps.specs.Sweep.{stage, node_rows, turned, sweep, Passing}
-use Rattle.tables_costs.specs.Loop.{upto}
-use lib.ListN.{length}
+use Rattle.tables_sweeps.specs.Sweep.{sweep}
 use mathlib.Core.Path.{◌≡◌}
-use Prim.Native.Nat.{◌-◌, ◌≤◌}
 use Rattle.tables_visits.proofs.sweep_all.Goals as goal
 
 pub loop-k-init : goal.loop-k-init

@@ -1,8 +1,4 @@
-use native.Mathlib.Omega.{arith}
-use borrow.Author.Rules.{rules}
-use Rattle.tables_visits.proofs.Turns.{still_sweeping, turning}
-use Rattle.tables_sweeps.proofs.Passes.{passing_start, passing_turn}
-use Rattle.tables_sweeps.specs.Sweep.{stage, node_rows, turned, sweep, Passing}
+use Rattle.tables_sweeps.specs.Sweep.{stage, node_rows, turned, Passing}
 use Rattle.tables_costs.specs.Loop.{upto}
 use lib.ListN.{length}
 use mathlib.Core.Path.{◌≡◌}

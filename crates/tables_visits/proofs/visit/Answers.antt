@@ -1,6 +1,5 @@
 use Rattle.tables_visits.proofs.Turns.{visiting, passed_by}
 use Rattle.tables_sweeps.proofs.Passes.{passing_row}
-use borrow.Author.Rules.{rules}
 use Rattle.tables_visits.proofs.visit.Goals as goal
 
 pub returns-then-is_settled : goal.returns-then-is_settled

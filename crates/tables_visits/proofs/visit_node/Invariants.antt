@@ -1,10 +1,5 @@
-use native.Mathlib.Omega.{arith}
-use borrow.Author.Rules.{rules}
-use Rattle.tables_visits.proofs.Turns.{still_sweeping}
-use Rattle.tables_sweeps.proofs.Passes.{passing_start, passing_turn}
-use Rattle.tables_sweeps.specs.Sweep.{stage, visited, node_rows, Passing}
+use Rattle.tables_sweeps.specs.Sweep.{stage, visited, Passing}
 use Rattle.tables_costs.specs.Loop.{upto}
-use Rattle.network.specs.Network.{protocols}
 use lib.ListN.{length}
 use mathlib.Core.Path.{◌≡◌}
 use Prim.Native.Nat.{◌-◌, ◌≤◌}

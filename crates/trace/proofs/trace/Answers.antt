@@ -1,7 +1,6 @@
 -- Too long, or written. Assumes nothing.
 use native.Mathlib.Omega.{arith}
 use Rattle.trace.proofs.Answers.{known, too_long, written_out}
-use borrow.Author.Rules.{rules}
 use Rattle.trace.proofs.trace.Goals as goal
 
 pub trace_length-length-requires : goal.trace_length-length-requires

@@ -1,7 +1,6 @@
 -- One step counted in. Assumes nothing.
 use Rattle.trace_replay.specs.Keys.{key_of}
 use Rattle.trace_measure.proofs.Tallies.{countable_here, countable_lost, countable_most}
-use borrow.Author.Rules.{rules}
 use Rattle.trace_measure.proofs.counted.Goals as goal
 
 pub stepped-packet-requires : goal.stepped-packet-requires

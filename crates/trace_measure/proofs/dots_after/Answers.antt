@@ -1,7 +1,6 @@
 -- By the kind: what goes was there, what comes is counted. Assumes nothing.
 use native.Mathlib.Omega.{arith}
 use Rattle.trace_measure.proofs.Dots.{by_conv, by_wrap, by_unwrap}
-use borrow.Author.Rules.{rules}
 use Rattle.trace_measure.proofs.dots_after.Goals as goal
 
 pub overflow_sub-result : goal.overflow_sub-result

@@ -2,7 +2,6 @@
 use native.Mathlib.Omega.{arith}
 use Rattle.trace_replay.specs.Keys.{key_of}
 use Rattle.trace_measure.specs.Sizes.{line_size}
-use borrow.Author.Rules.{rules}
 use Rattle.trace_measure.proofs.line_size.Goals as goal
 
 pub returns : goal.returns

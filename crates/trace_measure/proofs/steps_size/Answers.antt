@@ -1,8 +1,6 @@
 -- The loop keeps: however many bytes the lines have, what is counted and the lines left make them up. Assumes nothing.
-use Prim.Native.Nat.{ℕ, ◌-◌, ◌≤◌}
 use borrow.Author.Rules.{rules}
-use Rattle.trace_replay.proofs.Entries.{keys_left}
-use Rattle.trace_measure.proofs.Tallies.{Tallied, total, total_most, none_counted, turn_countable, turn_counted, all_counted}
+use Rattle.trace_measure.proofs.Tallies.{total, total_most, none_counted, turn_countable, turn_counted, all_counted}
 use Rattle.trace_measure.proofs.steps_size.Goals as goal
 
 pub loop-i-init : goal.loop-i-init

@@ -1,7 +1,6 @@
 -- The path line, then the step lines. Assumes nothing.
 use native.Mathlib.Omega.{arith}
 use Rattle.trace_measure.proofs.Tallies.{total_most, whole}
-use borrow.Author.Rules.{rules}
 use Rattle.trace_measure.proofs.trace_length.Goals as goal
 
 pub overflow_add-result : goal.overflow_add-result

@@ -1,5 +1,4 @@
 -- By the kind. Assumes nothing.
-use borrow.Author.Rules.{rules}
 use Rattle.network_records.specs.Columns.{kind_of_code}
 use Rattle.trace_stack.specs.Items.{cell_of}
 use Rattle.trace_stack.proofs.Cells.{cell_else}

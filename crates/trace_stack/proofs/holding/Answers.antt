@@ -1,7 +1,6 @@
 -- One cell is stored. Assumes nothing.
 use mathlib.Core.Path.{refl}
 use Rattle.trace_stack.specs.Items.{items, below}
-use borrow.Author.Rules.{rules}
 use Rattle.trace_stack.proofs.holding.Goals as goal
 
 pub returns : goal.returns

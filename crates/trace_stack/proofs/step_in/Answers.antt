@@ -1,10 +1,8 @@
-use native.Mathlib.Omega.{arith}
 use borrow.Author.Rules.{rules}
 use mathlib.Core.Path.{◌≡◌}
 use lib.ListN.{length}
-use Rattle.trace_stack.specs.Items.{items, highest}
+use Rattle.trace_stack.specs.Items.{highest}
 use Rattle.trace_stack.proofs.Cells.{cell_in, stored_acted}
-use Rattle.network_records.specs.Columns.{kind_of_code}
 use Rattle.trace_stack.proofs.step_in.Goals as goal
 
 pub bounds-s-at : goal.bounds-s-at

@@ -2,10 +2,6 @@
 use Rattle.trace_stepline.proofs.Pieces.{put_size}
 use Rattle.trace_stepline.proofs.Dotted.{cell_fits, cell_put, all_cells, no_cells}
 use borrow.Author.Rules.{rules}
-use Prim.Native.Nat.{◌-◌, ◌≤◌}
-use Rattle.paper.specs.Trace.{dotted}
-use Rattle.digits.specs.Write.{Put}
-use Rattle.trace_stack.specs.Items.{below}
 use Rattle.trace_stepline.proofs.put_cells.Goals as goal
 
 pub loop-h-init : goal.loop-h-init

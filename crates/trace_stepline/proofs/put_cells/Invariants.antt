@@ -1,7 +1,4 @@
 -- The loop keeps: the text of the lowest h cells is written. Assumes nothing.
-use Rattle.trace_stepline.proofs.Pieces.{put_size}
-use Rattle.trace_stepline.proofs.Dotted.{cell_fits, cell_put, all_cells, no_cells}
-use borrow.Author.Rules.{rules}
 use Prim.Native.Nat.{◌-◌, ◌≤◌}
 use Rattle.paper.specs.Trace.{dotted}
 use Rattle.digits.specs.Write.{Put}

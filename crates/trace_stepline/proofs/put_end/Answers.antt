@@ -4,7 +4,6 @@ use Rattle.trace_stack.specs.Items.{below}
 use Rattle.trace_replay.specs.Packet.{whereabouts}
 use Rattle.trace_stepline.specs.Texts.{end_text}
 use Rattle.trace_stepline.proofs.Pieces.{begin, fits, go_on, ended, end_pieces}
-use borrow.Author.Rules.{rules}
 use Rattle.trace_stepline.proofs.put_end.Goals as goal
 
 pub put_field-i-requires : goal.put_field-i-requires

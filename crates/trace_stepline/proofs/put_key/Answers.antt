@@ -3,7 +3,6 @@ use Rattle.paper.specs.Text.{step_word}
 use Rattle.trace_replay.specs.Keys.{key_of}
 use Rattle.trace_stepline.specs.Texts.{key_text}
 use Rattle.trace_stepline.proofs.Pieces.{begin, fits, go_on, ended, key_pieces}
-use borrow.Author.Rules.{rules}
 use Rattle.trace_stepline.proofs.put_key.Goals as goal
 
 pub put_word-i-requires : goal.put_word-i-requires

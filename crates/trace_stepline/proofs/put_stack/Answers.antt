@@ -1,6 +1,5 @@
 -- A tab, then the cells. Assumes nothing.
 use Rattle.digits.proofs.Writing.{then}
-use borrow.Author.Rules.{rules}
 use Rattle.trace_stepline.proofs.put_stack.Goals as goal
 
 pub returns : goal.returns

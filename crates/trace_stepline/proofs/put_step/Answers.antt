@@ -4,7 +4,6 @@ use Rattle.trace_replay.specs.Keys.{key_of}
 use Rattle.trace_replay.specs.Packet.{whereabouts}
 use Rattle.trace_stepline.specs.Texts.{key_text, end_text}
 use Rattle.trace_stepline.proofs.Pieces.{begin, fits, go_on, ended, two_parts}
-use borrow.Author.Rules.{rules}
 use Rattle.trace_stepline.proofs.put_step.Goals as goal
 
 pub put_key-i-requires : goal.put_key-i-requires

@@ -3,7 +3,6 @@ use mathlib.Core.Path.{◌∙◌}
 use native.Mathlib.Omega.{arith}
 use lib.ListN.{length-take}
 use Rattle.unfold.proofs.Enquiry.{part_asks, part_cleared, room_is}
-use borrow.Author.Rules.{rules}
 use Rattle.unfold.proofs.unfold.Goals as goal
 
 pub overflow_mul-room : goal.overflow_mul-room

@@ -1,5 +1,4 @@
 use Rattle.unfold_frames.specs.Frames.{with_mark}
-use borrow.Author.Rules.{rules}
 use Rattle.unfold_frames.proofs.add_mark.Goals as goal
 
 pub returns : goal.returns

@@ -1,5 +1,4 @@
 use Rattle.unfold_frames.proofs.Stores.{blank_laid}
-use borrow.Author.Rules.{rules}
 use Rattle.unfold_frames.proofs.begin.Goals as goal
 
 pub returns : goal.returns

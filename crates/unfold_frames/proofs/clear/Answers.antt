@@ -1,11 +1,8 @@
-use mathlib.Core.Path.{◌≡◌, refl, sym}
-use lib.ListN.{length-set, length, replicate}
+use mathlib.Core.Path.{refl, sym}
+use lib.ListN.{length-set}
 use native.Mathlib.Omega.{arith}
 use Rattle.laws.proofs.Laid.{laid_none}
 use Rattle.unfold_frames.proofs.Stores.{zero_more, zeros_all}
-use borrow.Author.Rules.{rules}
-use Prim.Native.Nat.{◌≤◌, ◌-◌}
-use Rattle.paper.specs.Rooms.{laid}
 use Rattle.unfold_frames.proofs.clear.Goals as goal
 
 pub loop-i-init : goal.loop-i-init

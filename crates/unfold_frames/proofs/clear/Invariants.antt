@@ -1,9 +1,5 @@
-use mathlib.Core.Path.{◌≡◌, refl, sym}
-use lib.ListN.{length-set, length, replicate}
-use native.Mathlib.Omega.{arith}
-use Rattle.laws.proofs.Laid.{laid_none}
-use Rattle.unfold_frames.proofs.Stores.{zero_more, zeros_all}
-use borrow.Author.Rules.{rules}
+use mathlib.Core.Path.{◌≡◌}
+use lib.ListN.{length, replicate}
 use Prim.Native.Nat.{◌≤◌, ◌-◌}
 use Rattle.paper.specs.Rooms.{laid}
 use Rattle.unfold_frames.proofs.clear.Given as goal

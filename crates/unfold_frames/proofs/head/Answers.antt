@@ -2,7 +2,6 @@ use lib.ListN.{length-set}
 use native.Mathlib.Omega.{arith}
 use Prim.Native.Nat.{◌%◌, ◌/◌}
 use Rattle.unfold_frames.proofs.Stores.{head_laid}
-use borrow.Author.Rules.{rules}
 use Rattle.unfold_frames.proofs.head.Goals as goal
 
 pub bounds-choice-o-2 : goal.bounds-choice-o-2

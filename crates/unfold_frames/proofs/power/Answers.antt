@@ -1,5 +1,4 @@
 use Rattle.unfold_frames.proofs.Stores.{power_fits}
-use borrow.Author.Rules.{rules}
 use Rattle.unfold_frames.proofs.power.Goals as goal
 
 pub returns : goal.returns

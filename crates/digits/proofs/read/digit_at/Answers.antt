@@ -1,6 +1,5 @@
 -- A byte below 48 or above 57 is no digit. Assumes nothing.
 use Rattle.digits.proofs.Reading.{digit_low, digit_high, digit_in}
-use borrow.Author.Rules.{rules}
 use Rattle.digits.proofs.read.digit_at.Goals as goal
 
 pub returns-then-b-lt48 : goal.returns-then-b-lt48

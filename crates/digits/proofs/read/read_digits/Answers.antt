@@ -1,8 +1,6 @@
 -- The loop keeps: what is told of all digits is what is told of those from i on, read on from v. Assumes nothing.
-use mathlib.Core.Path.{◌≡◌, sym, ◌∙◌}
-use Prim.Native.Nat.{◌≤◌, ◌-◌}
+use mathlib.Core.Path.{sym, ◌∙◌}
 use native.Mathlib.Omega.{arith}
-use Rattle.digits.specs.Read.{part, told_from}
 use Rattle.digits.proofs.Reading.{told_more, told_stop, told_all}
 use borrow.Author.Rules.{rules}
 use Rattle.digits.proofs.read.read_digits.Goals as goal

@@ -2,7 +2,6 @@
 use mathlib.Core.Path.{sym, ◌∙◌}
 use native.Mathlib.Omega.{arith}
 use Rattle.digits.proofs.Reading.{told_none, told_zero, told_leading, told_plain}
-use borrow.Author.Rules.{rules}
 use Rattle.digits.proofs.read.read_number.Goals as goal
 
 pub returns-then-s-t : goal.returns-then-s-t

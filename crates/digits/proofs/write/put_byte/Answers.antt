@@ -1,6 +1,5 @@
 -- A store is a text of one byte. Assumes nothing.
 use Rattle.digits.proofs.Writing.{byte_put}
-use borrow.Author.Rules.{rules}
 use Rattle.digits.proofs.write.put_byte.Goals as goal
 
 pub returns : goal.returns

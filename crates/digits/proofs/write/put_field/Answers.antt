@@ -1,6 +1,5 @@
 -- A tab, then a number. Assumes nothing.
 use Rattle.digits.proofs.Writing.{then}
-use borrow.Author.Rules.{rules}
 use Rattle.digits.proofs.write.put_field.Goals as goal
 
 pub returns : goal.returns

@@ -1,11 +1,8 @@
 -- The loop keeps: the numbers from the one at k on are left to write. Assumes nothing.
 use borrow.Author.Rules.{rules}
-use Prim.Native.Nat.{◌≤◌, ◌-◌}
 use mathlib.Core.List.{map}
 use native.Mathlib.Omega.{arith}
-use lib.ListN.{length, drop}
 use Rattle.paper.specs.Text.{decimal, tabbed}
-use Rattle.digits.specs.Write.{Left}
 use Rattle.digits.proofs.Writing.{whole_left, field_left, fields_put, field_room}
 use Rattle.digits.proofs.write.put_fields.Goals as goal
 

@@ -1,6 +1,5 @@
 -- Three kinds, three words. Assumes nothing.
 use Rattle.digits.proofs.Words.{conv_is, wrap_is, unwrap_is}
-use borrow.Author.Rules.{rules}
 use Rattle.digits.proofs.write.put_kind.Goals as goal
 
 pub put_word_field-requires : goal.put_word_field-requires

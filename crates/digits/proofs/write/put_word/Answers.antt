@@ -1,9 +1,7 @@
 -- The loop keeps: the word from its byte k on is left to write. Assumes nothing.
 use borrow.Author.Rules.{rules}
-use Prim.Native.Nat.{◌≤◌, ◌-◌}
 use native.Mathlib.Omega.{arith}
-use lib.ListN.{length, drop, length-drop}
-use Rattle.digits.specs.Write.{Left}
+use lib.ListN.{length-drop}
 use Rattle.digits.proofs.Writing.{whole_left, byte_left, word_put}
 use Rattle.digits.proofs.write.put_word.Goals as goal
 

@@ -1,10 +1,7 @@
 -- The loop keeps: the word from its byte k on is left to write. Assumes nothing.
-use borrow.Author.Rules.{rules}
 use Prim.Native.Nat.{◌≤◌, ◌-◌}
-use native.Mathlib.Omega.{arith}
-use lib.ListN.{length, drop, length-drop}
+use lib.ListN.{length, drop}
 use Rattle.digits.specs.Write.{Left}
-use Rattle.digits.proofs.Writing.{whole_left, byte_left, word_put}
 use Rattle.digits.proofs.write.put_word.Given as goal
 
 abbrev pub invariant-loop-k : goal.invariant-loop-k

@@ -1,6 +1,5 @@
 -- A tab, then a word. Assumes nothing.
 use Rattle.digits.proofs.Writing.{then}
-use borrow.Author.Rules.{rules}
 use Rattle.digits.proofs.write.put_word_field.Goals as goal
 
 pub returns : goal.returns

@@ -1,9 +1,5 @@
 -- The loop keeps: n has at least w digits. Assumes nothing.
-use borrow.Author.Rules.{rules}
-use Prim.Native.Nat.{◌+◌, ◌≤◌, ◌<◌, ◌-◌, ◌^◌}
-use mathlib.Core.Path.{◌≡◌}
-use native.Mathlib.Omega.{arith}
-use Rattle.digits.proofs.Digits.{digit_count}
+use Prim.Native.Nat.{◌≤◌, ◌<◌, ◌-◌, ◌^◌}
 use Rattle.digits.proofs.write.width.Given as goal
 
 abbrev pub invariant-loop-w : goal.invariant-loop-w

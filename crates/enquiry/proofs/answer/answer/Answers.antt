@@ -1,6 +1,4 @@
-use borrow.Author.Tests.{not-true, not-false}
 use Rattle.enquiry.proofs.Answering.{in_ranges, answers_6, answers_7, long_enough, made_ready, answers_on}
-use borrow.Author.Rules.{rules}
 use Rattle.enquiry.proofs.answer.answer.Goals as goal
 
 pub returns-then-not-in_range : goal.returns-then-not-in_range

@@ -1,6 +1,5 @@
 use native.Mathlib.Omega.{arith}
 use native.Mathlib.Nat.{mul-le-mul}
-use borrow.Author.Rules.{rules}
 use Rattle.enquiry.proofs.answer.enough.Goals as goal
 
 pub overflow_mul-entries : goal.overflow_mul-entries

@@ -1,5 +1,4 @@
 use Rattle.paper.specs.Outcome.{known}
-use borrow.Author.Rules.{rules}
 use Rattle.enquiry.proofs.answer.in_range.Goals as goal
 
 pub returns : goal.returns

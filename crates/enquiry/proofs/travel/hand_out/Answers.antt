@@ -1,6 +1,5 @@
 use native.Mathlib.Omega.{arith}
 use Rattle.enquiry.proofs.Handing.{few, unfolds, traceable, ends_0, ends_11, is_cleared}
-use borrow.Author.Rules.{rules}
 use Rattle.enquiry.proofs.travel.hand_out.Goals as goal
 
 pub unfold-requires : goal.unfold-requires

@@ -1,7 +1,6 @@
 use Prim.Native.Nat.{◌<◌}
 use native.Mathlib.Omega.{arith}
 use Rattle.enquiry.proofs.Pairs.{paired_at}
-use borrow.Author.Rules.{rules}
 use Rattle.enquiry.proofs.travel.pair.Goals as goal
 
 pub overflow_mul-result : goal.overflow_mul-result

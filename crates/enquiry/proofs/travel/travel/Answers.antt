@@ -2,7 +2,6 @@ use mathlib.Core.Path.{refl, ap, ◌∙◌}
 use Prim.Native.Nat.{ℕ}
 use lib.ListN.{get_or}
 use Rattle.enquiry.proofs.Handing.{ends_8, ends_9, ends_10, fit}
-use borrow.Author.Rules.{rules}
 use Rattle.enquiry.proofs.travel.travel.Goals as goal
 
 pub returns-then-w : goal.returns-then-w

@@ -1,7 +1,6 @@
 -- Refused as the reader says, refused for the room, or written. Assumes nothing.
 use native.Mathlib.Omega.{arith}
 use Rattle.file_normal.proofs.Answers.{answer_refused, answer_long, room_enough, answer_written}
-use borrow.Author.Rules.{rules}
 use Rattle.file_normal.proofs.file.normal_in.Goals as goal
 
 pub returns-then-j-ne0 : goal.returns-then-j-ne0

@@ -2,7 +2,6 @@
 use native.Mathlib.Omega.{arith}
 use Rattle.digits.proofs.Writing.{then}
 use Rattle.file_normal.proofs.Parts.{fun_parts, fun_length}
-use borrow.Author.Rules.{rules}
 use Rattle.file_normal.proofs.lines.put_fun.Goals as goal
 
 pub put_word-at-requires : goal.put_word-at-requires

@@ -2,7 +2,6 @@
 use native.Mathlib.Omega.{arith}
 use Rattle.digits.proofs.Writing.{then}
 use Rattle.file_normal.proofs.Parts.{link_parts, link_length}
-use borrow.Author.Rules.{rules}
 use Rattle.file_normal.proofs.lines.put_link.Goals as goal
 
 pub put_word-at-requires : goal.put_word-at-requires

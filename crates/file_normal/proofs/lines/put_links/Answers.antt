@@ -1,10 +1,8 @@
 -- The loop keeps: the lines of the links from i on are left to write. Assumes nothing.
 use borrow.Author.Rules.{rules}
-use Prim.Native.Nat.{◌≤◌, ◌-◌}
 use native.Mathlib.Omega.{arith}
-use Rattle.paper.specs.Normal.{link_text, texts}
-use Rattle.network_records.specs.Columns.{link_at, rows, link_rows}
-use Rattle.digits.specs.Write.{Left}
+use Rattle.paper.specs.Normal.{link_text}
+use Rattle.network_records.specs.Columns.{link_at, link_rows}
 use Rattle.file_normal.proofs.Rows.{all_left, row_room, row_left, rows_put}
 use Rattle.file_normal.proofs.lines.put_links.Goals as goal
 

@@ -2,7 +2,6 @@
 use native.Mathlib.Omega.{arith}
 use Rattle.digits.proofs.Writing.{then}
 use Rattle.file_normal.proofs.Parts.{net_parts, net_length}
-use borrow.Author.Rules.{rules}
 use Rattle.file_normal.proofs.lines.put_net.Goals as goal
 
 pub put_word-i-requires : goal.put_word-i-requires

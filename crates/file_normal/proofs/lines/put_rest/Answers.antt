@@ -3,7 +3,6 @@ use native.Mathlib.Omega.{arith}
 use Rattle.digits.proofs.Writing.{then}
 use Rattle.file_normal.specs.Line.{last_fields}
 use Rattle.file_normal.proofs.Parts.{rest_length}
-use borrow.Author.Rules.{rules}
 use Rattle.file_normal.proofs.lines.put_rest.Goals as goal
 
 pub put_fields-i-requires : goal.put_fields-i-requires

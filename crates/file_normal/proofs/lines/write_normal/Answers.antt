@@ -1,7 +1,6 @@
 -- The net line, the links and the functions, one after another, are the normal file. Assumes nothing.
 use native.Mathlib.Omega.{arith}
 use Rattle.file_normal.proofs.Parts.{file_length, file_put}
-use borrow.Author.Rules.{rules}
 use Rattle.file_normal.proofs.lines.write_normal.Goals as goal
 
 pub put_net-i-requires : goal.put_net-i-requires

@@ -1,4 +1,3 @@
-use borrow.Author.Rules.{rules}
 use Rattle.network.specs.Network.{funs_begin}
 use Rattle.network.proofs.Fields.{part_on}
 use Rattle.network.proofs.record.fun_room.Goals as goal

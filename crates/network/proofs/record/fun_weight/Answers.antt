@@ -1,5 +1,4 @@
 use Prim.Native.Nat.{◌≤◌}
-use borrow.Author.Rules.{rules}
 use Rattle.network_records.specs.Columns.{fee}
 use Rattle.network.proofs.Fields.{fun_in, ranged}
 use Rattle.network.proofs.record.fun_weight.Goals as goal

@@ -1,5 +1,4 @@
 use Prim.Native.Nat.{◌<◌}
-use borrow.Author.Rules.{rules}
 use Rattle.network_records.specs.Columns.{xOf}
 use Rattle.network.specs.Network.{protocols}
 use Rattle.network.proofs.Fields.{fun_in, ranged}

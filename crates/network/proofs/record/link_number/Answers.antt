@@ -1,5 +1,4 @@
 use Prim.Native.Nat.{◌≤◌}
-use borrow.Author.Rules.{rules}
 use Rattle.network_records.specs.Columns.{number}
 use Rattle.network.proofs.Fields.{link_in, ranged}
 use Rattle.network.proofs.record.link_number.Goals as goal

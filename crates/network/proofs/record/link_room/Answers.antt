@@ -1,4 +1,3 @@
-use borrow.Author.Rules.{rules}
 use Rattle.network.specs.Network.{links_begin}
 use Rattle.network.proofs.Fields.{part_on}
 use Rattle.network.proofs.record.link_room.Goals as goal

@@ -1,5 +1,4 @@
 use Prim.Native.Nat.{◌<◌}
-use borrow.Author.Rules.{rules}
 use Rattle.network_records.specs.Columns.{to}
 use Rattle.network.specs.Network.{nodes}
 use Rattle.network.proofs.Fields.{link_in, ranged}

@@ -1,4 +1,3 @@
-use borrow.Author.Rules.{rules}
 use Rattle.network.proofs.size.number_of.Goals as goal
 
 pub number-requires : goal.number-requires

@@ -1,4 +1,3 @@
-use borrow.Author.Rules.{rules}
 use Rattle.network.proofs.walk.is_for.Goals as goal
 
 pub returns : goal.returns

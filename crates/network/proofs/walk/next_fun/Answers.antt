@@ -1,10 +1,4 @@
-use Prim.Native.Nat.{◌+◌, ◌-◌}
-use mathlib.Core.Path.{◌≡◌}
 use native.Mathlib.Omega.{arith}
-use borrow.Author.Rules.{rules}
-use Rattle.network.specs.Network.{fun_start}
-use Rattle.network.specs.Next.{suits}
-use Rattle.network.proofs.Groups.{Walked}
 use Rattle.network.proofs.Walks.{fun_start_lem, fun_below, fun_found, fun_on, fun_none}
 use Rattle.network.proofs.walk.next_fun.Goals as goal
 

@@ -1,5 +1,4 @@
 use native.Mathlib.Omega.{arith}
-use borrow.Author.Rules.{rules}
 use Rattle.network.proofs.Walks.{link_found, link_none}
 use Rattle.network.proofs.walk.next_link.Goals as goal
 

@@ -1,9 +1,6 @@
 use borrow.Author.Rules.{rules}
-use mathlib.Core.Path.{◌≡◌, refl, sym, ◌∙◌}
-use Prim.Native.Nat.{◌-◌, ◌≤◌}
+use mathlib.Core.Path.{refl, sym, ◌∙◌}
 use native.Mathlib.Omega.{arith}
-use lib.ListN.{length, drop}
-use Rattle.paper.specs.Net.{before}
 use Rattle.paper.proofs.Keys.{same_at, differ_at, ended}
 use Rattle.paper.proofs.key.key_before.Goals as goal
 

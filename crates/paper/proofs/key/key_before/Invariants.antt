@@ -1,10 +1,7 @@
-use borrow.Author.Rules.{rules}
-use mathlib.Core.Path.{◌≡◌, refl, sym, ◌∙◌}
+use mathlib.Core.Path.{◌≡◌}
 use Prim.Native.Nat.{◌-◌, ◌≤◌}
-use native.Mathlib.Omega.{arith}
 use lib.ListN.{length, drop}
 use Rattle.paper.specs.Net.{before}
-use Rattle.paper.proofs.Keys.{same_at, differ_at, ended}
 use Rattle.paper.proofs.key.key_before.Given as goal
 
 abbrev pub invariant-loop-i : goal.invariant-loop-i

@@ -2,10 +2,7 @@ use native.Mathlib.Omega.{arith}
 use borrow.Author.Rules.{rules}
 use Rattle.tables.proofs.Turns.{zeroed}
 use Rattle.laws.proofs.Laid.{laid_none}
-use Rattle.paper.specs.Rooms.{laid}
-use lib.ListN.{length, replicate}
 use mathlib.Core.Path.{◌≡◌, refl, sym}
-use Prim.Native.Nat.{◌-◌, ◌≤◌}
 use Rattle.tables.proofs.choice.zeros.Goals as goal
 
 pub loop-i-init : goal.loop-i-init

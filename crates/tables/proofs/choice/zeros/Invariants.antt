@@ -1,10 +1,6 @@
-use native.Mathlib.Omega.{arith}
-use borrow.Author.Rules.{rules}
-use Rattle.tables.proofs.Turns.{zeroed}
-use Rattle.laws.proofs.Laid.{laid_none}
 use Rattle.paper.specs.Rooms.{laid}
 use lib.ListN.{length, replicate}
-use mathlib.Core.Path.{◌≡◌, refl, sym}
+use mathlib.Core.Path.{◌≡◌}
 use Prim.Native.Nat.{◌-◌, ◌≤◌}
 use Rattle.tables.proofs.choice.zeros.Given as goal
 

@@ -1,7 +1,5 @@
 use mathlib.Core.Path.{refl, ◌∙◌}
-use borrow.Author.Rules.{rules}
-use Rattle.tables.proofs.Settling.{left, Settling, settling_begun, settling_turn, left_less, settled}
-use borrow.Author.Tests.{not-false}
+use Rattle.tables.proofs.Settling.{settling_begun, settling_turn, left_less, settled}
 use Rattle.tables_visits.proofs.Turns.{still_sweeping}
 use Rattle.tables.proofs.settle.settle.Goals as goal
 

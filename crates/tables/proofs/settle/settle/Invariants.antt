@@ -1,8 +1,4 @@
-use mathlib.Core.Path.{refl, ◌∙◌}
-use borrow.Author.Rules.{rules}
-use Rattle.tables.proofs.Settling.{left, Settling, settling_begun, settling_turn, left_less, settled}
-use borrow.Author.Tests.{not-false}
-use Rattle.tables_visits.proofs.Turns.{still_sweeping}
+use Rattle.tables.proofs.Settling.{left, Settling}
 use Rattle.tables.proofs.settle.settle.Given as goal
 
 abbrev pub invariant-loop-done : goal.invariant-loop-done

@@ -1,5 +1,4 @@
 use Rattle.tables_costs.specs.Costs.{cost_at}
-use borrow.Author.Rules.{rules}
 use Rattle.tables_costs.proofs.cost.cost_at.Goals as goal
 
 pub returns : goal.returns

@@ -1,7 +1,6 @@
 use mathlib.Core.Path.{sym, ◌∙◌}
 use native.Mathlib.Omega.{arith}
 use Rattle.tables_costs.proofs.Worth.{cost_marked, cost_plain}
-use borrow.Author.Rules.{rules}
 use Rattle.tables_costs.proofs.cost.cost_of.Goals as goal
 
 pub returns-then-weight-eq-NEVER_MARK : goal.returns-then-weight-eq-NEVER_MARK

@@ -1,6 +1,5 @@
 use native.Mathlib.Omega.{arith}
 use Rattle.tables_costs.proofs.Worth.{spells_never, spells_over, spells_within}
-use borrow.Author.Rules.{rules}
 use Rattle.tables_costs.proofs.cost.entry_of.Goals as goal
 
 pub returns-then-k-ge-FAR : goal.returns-then-k-ge-FAR

@@ -1,5 +1,4 @@
 use Rattle.tables_costs.specs.Costs.{lower_to}
-use borrow.Author.Rules.{rules}
 use Rattle.tables_costs.proofs.cost.lower_to.Goals as goal
 
 pub returns : goal.returns

@@ -1,5 +1,4 @@
 use Rattle.tables_costs.proofs.Stores.{taken, left}
-use borrow.Author.Rules.{rules}
 use Rattle.tables_costs.proofs.entry.lower.Goals as goal
 
 pub returns-then-lighter : goal.returns-then-lighter

@@ -1,9 +1,5 @@
-use native.Mathlib.Omega.{arith}
-use borrow.Author.Rules.{rules}
-use Rattle.tables_lowering.proofs.Turns.{clearing}
 use Rattle.tables_sweeps.specs.Sweep.{cleared}
 use Rattle.tables_costs.specs.Cells.{cells}
-use Rattle.tables_costs.specs.Loop.{upto}
 use lib.ListN.{length}
 use mathlib.Core.Bool.{false}
 use mathlib.Core.Path.{◌≡◌}

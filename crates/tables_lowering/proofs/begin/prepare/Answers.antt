@@ -1,5 +1,4 @@
 use Rattle.tables_lowering.proofs.Turns.{prepared}
-use borrow.Author.Rules.{rules}
 use Rattle.tables_lowering.proofs.begin.prepare.Goals as goal
 
 pub returns : goal.returns

@@ -3,11 +3,8 @@ use borrow.Author.Rules.{rules}
 use Rattle.tables_lowering.proofs.Turns.{staying}
 use Rattle.tables_sweeps.proofs.Loops.{turn}
 use Rattle.tables_sweeps.specs.Sweep.{diagonal}
-use Rattle.tables_costs.specs.Cells.{cells, lowered}
 use Rattle.tables_costs.specs.Loop.{upto}
-use lib.ListN.{length}
 use mathlib.Core.Path.{◌≡◌}
-use Prim.Native.Nat.{◌+◌, ◌*◌, ◌-◌, ◌≤◌}
 use Rattle.tables_lowering.proofs.begin.stay.Goals as goal
 
 pub loop-k-init : goal.loop-k-init

@@ -1,8 +1,3 @@
-use native.Mathlib.Omega.{arith}
-use borrow.Author.Rules.{rules}
-use Rattle.tables_lowering.proofs.Turns.{staying}
-use Rattle.tables_sweeps.proofs.Loops.{turn}
-use Rattle.tables_sweeps.specs.Sweep.{diagonal}
 use Rattle.tables_costs.specs.Cells.{cells, lowered}
 use Rattle.tables_costs.specs.Loop.{upto}
 use lib.ListN.{length}

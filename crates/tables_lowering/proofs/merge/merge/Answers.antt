@@ -1,12 +1,9 @@
 use native.Mathlib.Omega.{arith}
 use borrow.Author.Rules.{rules}
 use Rattle.tables_sweeps.proofs.Loops.{turn}
-use Rattle.tables_sweeps.specs.Row.{merging, merged}
-use Rattle.tables_costs.specs.Cells.{cells}
+use Rattle.tables_sweeps.specs.Row.{merged}
 use Rattle.tables_costs.specs.Loop.{upto}
-use lib.ListN.{length}
 use mathlib.Core.Path.{◌≡◌}
-use Prim.Native.Nat.{◌-◌, ◌≤◌}
 use Rattle.tables_lowering.proofs.merge.merge.Goals as goal
 
 pub loop-q-init : goal.loop-q-init

@@ -1,7 +1,4 @@
-use native.Mathlib.Omega.{arith}
-use borrow.Author.Rules.{rules}
-use Rattle.tables_sweeps.proofs.Loops.{turn}
-use Rattle.tables_sweeps.specs.Row.{merging, merged}
+use Rattle.tables_sweeps.specs.Row.{merging}
 use Rattle.tables_costs.specs.Cells.{cells}
 use Rattle.tables_costs.specs.Loop.{upto}
 use lib.ListN.{length}

@@ -1,6 +1,5 @@
 use native.Mathlib.Omega.{arith}
 use Rattle.tables_lowering.proofs.Turns.{not_merged, merged_one}
-use borrow.Author.Rules.{rules}
 use Rattle.tables_lowering.proofs.merge.merge_one.Goals as goal
 
 pub returns-then-cost_at-k : goal.returns-then-cost_at-k

@@ -1,5 +1,4 @@
 use Rattle.tables_reach.proofs.Crossings.{stepped}
-use borrow.Author.Rules.{rules}
 use Rattle.tables_reach.proofs.steps.step.Goals as goal
 
 pub returns : goal.returns

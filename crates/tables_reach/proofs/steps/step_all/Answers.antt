@@ -1,13 +1,8 @@
 use native.Mathlib.Omega.{arith}
 use borrow.Author.Rules.{rules}
 use Rattle.tables_reach.proofs.Crossings.{served, not_served}
-use Rattle.tables_reach.proofs.Scans.{Scanned, scan_start, scan_turn, scan_end}
-use Rattle.tables_sweeps.specs.Row.{serving, steps}
-use Rattle.network.specs.Network.{funs}
-use Rattle.network.specs.Next.{suits}
-use lib.ListN.{length}
-use mathlib.Core.Path.{◌≡◌}
-use Prim.Native.Nat.{◌-◌}
+use Rattle.tables_reach.proofs.Scans.{scan_start, scan_turn, scan_end}
+use Rattle.tables_sweeps.specs.Row.{steps}
 use Rattle.tables_reach.proofs.steps.step_all.Goals as goal
 
 pub loop-j-init : goal.loop-j-init

@@ -1,8 +1,5 @@
-use native.Mathlib.Omega.{arith}
-use borrow.Author.Rules.{rules}
-use Rattle.tables_reach.proofs.Crossings.{served, not_served}
-use Rattle.tables_reach.proofs.Scans.{Scanned, scan_start, scan_turn, scan_end}
-use Rattle.tables_sweeps.specs.Row.{serving, steps}
+use Rattle.tables_reach.proofs.Scans.{Scanned}
+use Rattle.tables_sweeps.specs.Row.{serving}
 use Rattle.network.specs.Network.{funs}
 use Rattle.network.specs.Next.{suits}
 use lib.ListN.{length}

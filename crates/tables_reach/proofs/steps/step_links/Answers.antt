@@ -1,13 +1,7 @@
 use native.Mathlib.Omega.{arith}
 use borrow.Author.Rules.{rules}
 use Rattle.tables_reach.proofs.Crossings.{crossed, not_crossed}
-use Rattle.tables_reach.proofs.Scans.{Scanned, scan_start, scan_turn, scan_end}
-use Rattle.tables_sweeps.specs.Row.{crossing}
-use Rattle.network.specs.Network.{links}
-use Rattle.network.specs.Next.{leaves}
-use lib.ListN.{length}
-use mathlib.Core.Path.{◌≡◌}
-use Prim.Native.Nat.{◌-◌}
+use Rattle.tables_reach.proofs.Scans.{scan_start, scan_turn, scan_end}
 use Rattle.tables_reach.proofs.steps.step_links.Goals as goal
 
 pub loop-i-init : goal.loop-i-init

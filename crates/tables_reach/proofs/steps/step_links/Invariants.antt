@@ -1,7 +1,4 @@
-use native.Mathlib.Omega.{arith}
-use borrow.Author.Rules.{rules}
-use Rattle.tables_reach.proofs.Crossings.{crossed, not_crossed}
-use Rattle.tables_reach.proofs.Scans.{Scanned, scan_start, scan_turn, scan_end}
+use Rattle.tables_reach.proofs.Scans.{Scanned}
 use Rattle.tables_sweeps.specs.Row.{crossing}
 use Rattle.network.specs.Network.{links}
 use Rattle.network.specs.Next.{leaves}

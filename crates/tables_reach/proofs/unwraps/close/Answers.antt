@@ -1,6 +1,5 @@
 use native.Mathlib.Omega.{arith}
 use Rattle.tables_reach.proofs.Closings.{no_unwrap, no_exit, closed}
-use borrow.Author.Rules.{rules}
 use Rattle.tables_reach.proofs.unwraps.close.Goals as goal
 
 pub returns-then-not-is_for : goal.returns-then-not-is_for

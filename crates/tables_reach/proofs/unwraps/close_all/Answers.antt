@@ -1,12 +1,10 @@
 use native.Mathlib.Omega.{arith}
 use borrow.Author.Rules.{rules}
 use Rattle.tables_sweeps.proofs.Loops.{turn}
-use Rattle.tables_sweeps.specs.Row.{closing, closings}
+use Rattle.tables_sweeps.specs.Row.{closings}
 use Rattle.network.specs.Network.{funs}
 use Rattle.tables_costs.specs.Loop.{upto}
-use lib.ListN.{length}
 use mathlib.Core.Path.{◌≡◌}
-use Prim.Native.Nat.{◌-◌, ◌≤◌}
 use Rattle.tables_reach.proofs.unwraps.close_all.Goals as goal
 
 pub loop-j-init : goal.loop-j-init

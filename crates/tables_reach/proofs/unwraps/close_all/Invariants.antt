@@ -1,7 +1,4 @@
-use native.Mathlib.Omega.{arith}
-use borrow.Author.Rules.{rules}
-use Rattle.tables_sweeps.proofs.Loops.{turn}
-use Rattle.tables_sweeps.specs.Row.{closing, closings}
+use Rattle.tables_sweeps.specs.Row.{closing}
 use Rattle.network.specs.Network.{funs}
 use Rattle.tables_costs.specs.Loop.{upto}
 use lib.ListN.{length}

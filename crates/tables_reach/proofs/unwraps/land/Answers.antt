@@ -1,6 +1,5 @@
 use native.Mathlib.Omega.{arith}
 use Rattle.tables_reach.proofs.Closings.{no_end, landed}
-use borrow.Author.Rules.{rules}
 use Rattle.tables_reach.proofs.unwraps.land.Goals as goal
 
 pub returns-then-k-ge-FAR : goal.returns-then-k-ge-FAR

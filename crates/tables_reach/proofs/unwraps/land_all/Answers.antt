@@ -1,12 +1,10 @@
 use native.Mathlib.Omega.{arith}
 use borrow.Author.Rules.{rules}
 use Rattle.tables_sweeps.proofs.Loops.{turn}
-use Rattle.tables_sweeps.specs.Row.{landing, landings}
+use Rattle.tables_sweeps.specs.Row.{landings}
 use Rattle.network.specs.Network.{links}
 use Rattle.tables_costs.specs.Loop.{upto}
-use lib.ListN.{length}
 use mathlib.Core.Path.{◌≡◌}
-use Prim.Native.Nat.{◌-◌, ◌≤◌}
 use Rattle.tables_reach.proofs.unwraps.land_all.Goals as goal
 
 pub loop-i-init : goal.loop-i-init

@@ -1,4 +1,3 @@
-use borrow.Author.Rules.{rules}
 use Rattle.tables_reach.proofs.unwraps.land_of.Goals as goal
 
 pub returns : goal.returns

@@ -1,4 +1,3 @@
-use borrow.Author.Rules.{rules}
 use Rattle.tables_visits.proofs.news.is_settled.Goals as goal
 
 pub returns-then-next_fun-funs : goal.returns-then-next_fun-funs

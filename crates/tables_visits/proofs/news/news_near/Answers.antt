@@ -1,7 +1,4 @@
 use native.Mathlib.Omega.{arith}
-use borrow.Author.Rules.{rules}
-use Prim.Native.Nat.{◌-◌, ◌≤◌}
-use Rattle.network.specs.Network.{links}
 use Rattle.tables_visits.proofs.news.news_near.Goals as goal
 
 pub loop-i-init : goal.loop-i-init

@@ -1,5 +1,3 @@
-use native.Mathlib.Omega.{arith}
-use borrow.Author.Rules.{rules}
 use Prim.Native.Nat.{◌-◌, ◌≤◌}
 use Rattle.network.specs.Network.{links}
 use Rattle.tables_visits.proofs.news.news_near.Given as goal

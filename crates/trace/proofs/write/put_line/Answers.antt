@@ -1,6 +1,5 @@
 -- The step is taken, and its line written. Assumes nothing.
 use Rattle.trace.proofs.Replays.{line_asked, line_told}
-use borrow.Author.Rules.{rules}
 use Rattle.trace.proofs.write.put_line.Goals as goal
 
 pub put_step-next-requires : goal.put_step-next-requires

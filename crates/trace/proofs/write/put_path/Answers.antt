@@ -3,7 +3,6 @@ use native.Mathlib.Omega.{arith}
 use Rattle.paper.specs.Text.{path_word}
 use Rattle.trace_stepline.proofs.Pieces.{begin, fits, go_on, ended}
 use Rattle.trace.proofs.Replays.{path_pieces, path_joined}
-use borrow.Author.Rules.{rules}
 use Rattle.trace.proofs.write.put_path.Goals as goal
 
 pub put_word-i-requires : goal.put_word-i-requires

@@ -1,6 +1,5 @@
 -- The stack and the packet at the start, then the lines. Assumes nothing.
 use Rattle.trace.proofs.Replays.{same_lines, start_out}
-use borrow.Author.Rules.{rules}
 use Rattle.trace.proofs.write.put_steps.Goals as goal
 
 pub put_lines-requires : goal.put_lines-requires

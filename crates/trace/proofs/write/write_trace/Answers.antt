@@ -3,7 +3,6 @@ use native.Mathlib.Omega.{arith}
 use Rattle.digits.proofs.Writing.{then}
 use Rattle.trace_stepline.proofs.Pieces.{put_size}
 use Rattle.trace.proofs.Replays.{trace_parts, trace_room}
-use borrow.Author.Rules.{rules}
 use Rattle.trace.proofs.write.write_trace.Goals as goal
 
 pub put_path-i-requires : goal.put_path-i-requires

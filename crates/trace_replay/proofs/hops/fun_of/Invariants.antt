@@ -1,13 +1,9 @@
 -- The loop keeps: no function before j is the one sought, and function j is the node's, of this kind and for x. Assumes nothing.
 use Prim.Native.Nat.{◌-◌}
-use mathlib.Core.Path.{sym, ◌∙◌}
-use native.Mathlib.Omega.{arith}
 use lib.Dec.{eqb}
-use borrow.Author.Rules.{rules}
-use borrow.Author.Tests.{eq-eqb, ne_eqb}
 use Rattle.network.specs.Network.{funs, yOf}
 use Rattle.network.specs.Next.{suits}
-use Rattle.trace_replay.proofs.Finding.{Sought, first, further, here, nowhere}
+use Rattle.trace_replay.proofs.Finding.{Sought}
 use Rattle.trace_replay.proofs.hops.fun_of.Given as goal
 
 abbrev pub invariant-loop-j : goal.invariant-loop-j

@@ -1,7 +1,6 @@
 -- The two records are found, or one is missing. Assumes nothing.
 use mathlib.Core.Path.{sym}
 use native.Mathlib.Omega.{arith}
-use borrow.Author.Rules.{rules}
 use Rattle.trace_replay.proofs.Finding.{leads, no_link, no_fun}
 use Rattle.trace_replay.proofs.hops.hop.Goals as goal
 

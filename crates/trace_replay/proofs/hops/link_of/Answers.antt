@@ -1,13 +1,8 @@
 -- The loop keeps: no link before i is the one sought, and link i leaves the node. Assumes nothing.
-use Prim.Native.Nat.{◌-◌}
 use mathlib.Core.Path.{sym, ◌∙◌}
 use native.Mathlib.Omega.{arith}
-use lib.Dec.{eqb}
-use borrow.Author.Rules.{rules}
 use borrow.Author.Tests.{eq-eqb, ne_eqb}
-use Rattle.network.specs.Network.{links, number}
-use Rattle.network.specs.Next.{leaves}
-use Rattle.trace_replay.proofs.Finding.{Sought, first, further, here, nowhere}
+use Rattle.trace_replay.proofs.Finding.{first, further, here, nowhere}
 use Rattle.trace_replay.proofs.hops.link_of.Goals as goal
 
 pub loop-i-init : goal.loop-i-init

@@ -1,6 +1,5 @@
 -- The step leads nowhere, or to a node. Assumes nothing.
 use mathlib.Core.Path.{sym, ap, ◌∙◌}
-use borrow.Author.Rules.{rules}
 use Rattle.trace_replay.specs.Hops.{hopped}
 use Rattle.trace_replay.proofs.Ways.{stays, arrives}
 use Rattle.trace_replay.proofs.packet.stepped.Goals as goal

@@ -3,7 +3,6 @@ use Prim.Native.Nat.{ℕ}
 use native.Mathlib.Omega.{arith}
 use lib.ListN.{get_or}
 use Rattle.unfold.proofs.Enquiry.{entry_below, entry_is}
-use borrow.Author.Rules.{rules}
 use Rattle.unfold.proofs.bottom.entry_of.Goals as goal
 
 pub overflow_add-row : goal.overflow_add-row

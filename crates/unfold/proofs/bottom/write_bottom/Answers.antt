@@ -1,5 +1,4 @@
 use Rattle.unfold.proofs.Enquiry.{bottomed}
-use borrow.Author.Rules.{rules}
 use Rattle.unfold.proofs.bottom.write_bottom.Goals as goal
 
 pub returns : goal.returns

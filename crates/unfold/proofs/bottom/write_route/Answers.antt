@@ -1,5 +1,4 @@
 use Rattle.unfold.proofs.Enquiry.{bottom_room, route_asks, route_done}
-use borrow.Author.Rules.{rules}
 use Rattle.unfold.proofs.bottom.write_route.Goals as goal
 
 pub write_bottom-requires : goal.write_bottom-requires

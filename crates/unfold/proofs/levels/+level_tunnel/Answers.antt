@@ -1,9 +1,9 @@
 -- Where the level has gone asks what a pick, a store and a tunnel need; what they leave is where it has gone next. Assumes nothing.
-use Rattle.std.proofs.Common.{arith, ◌≡◌, ◌∙◌, length}
+use Rattle.std.proofs.Common.{arith}
 use native.Mathlib.Numerals.{add-one}
 use Rattle.paper.specs.Net.{wrap, unwrap}
 use Rattle.unfold.proofs.Writes.{taken_as, taken_conv}
-use Rattle.unfold.proofs.Contract.{went_none, went_conv, went_then, went_asks, level_closes, level_ends, picked_falls, tunnel_opens, tunnel_few, tunnel_calls, tunnel_done}
+use Rattle.unfold.proofs.Contract.{went_none, went_conv, went_then, went_asks, level_closes, level_ends, picked_falls, tunnel_opens, tunnel_calls, tunnel_done}
 use Rattle.unfold.proofs.levels.+level_tunnel.Goals as goal
 
 pub level-loop-here-init : goal.level-loop-here-init
@@ -19,10 +19,13 @@ pub level-tunnel-here-requires : goal.level-tunnel-here-requires
 level-tunnel-here-requires t c =
     let p = c.requires in
     let l = c.loop-here in
-    let k = c.pick-s in
-    (omega (arith, c.decreases, l.invariant.moved.leads.counts),
-     ((went_asks p.0 l.invariant l.auto.choice l.auto.steps, omega (arith, p.1, l.auto.exits, k.auto.exits), omega (arith, p.2, l.auto.outs, k.auto.outs)),
-      (c.if-kind-eq1.true, k.ensures)))
+    let k = c.pick-s in (
+      omega (arith, c.decreases, l.invariant.moved.leads.counts),
+      (
+        (went_asks p.0 l.invariant l.auto.choice l.auto.steps, omega (arith, p.1, l.auto.exits, k.auto.exits), omega (arith, p.2, l.auto.outs, k.auto.outs)),
+        (c.if-kind-eq1.true, k.ensures),
+      ),
+    )
 
 pub level-loop-here-preserved-then-kind-eq1 : goal.level-loop-here-preserved-then-kind-eq1
 level-loop-here-preserved-then-kind-eq1 t c = went_then c.requires.0 c.loop-here.invariant c.tunnel-here.ensures.went
@@ -72,9 +75,10 @@ pub tunnel-level-requires : goal.tunnel-level-requires
 tunnel-level-requires t c =
     let p = c.requires in
     let y = taken_as p.key_value.1 wrap p.key_value.0 in
-    let o = c.«open» in
-    (omega (arith, c.decreases, picked_falls p.asks.0 y.picked),
-     (rw (add-one c.args.course.level) (tunnel_calls p.asks.0 y o.ensures.0 o.ensures.1 o.auto.choice c.put.auto.steps), omega (arith, p.asks.1, o.auto.exits), omega (arith, p.asks.2, o.auto.outs)))
+    let o = c.«open» in (
+      omega (arith, c.decreases, picked_falls p.asks.0 y.picked),
+      (rw (add-one c.args.course.level) (tunnel_calls p.asks.0 y o.ensures.0 o.ensures.1 o.auto.choice c.put.auto.steps), omega (arith, p.asks.1, o.auto.exits), omega (arith, p.asks.2, o.auto.outs)),
+    )
 
 pub tunnel-returns : goal.tunnel-returns
 tunnel-returns t c =

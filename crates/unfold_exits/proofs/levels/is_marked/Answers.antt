@@ -1,6 +1,5 @@
 use mathlib.Core.Path.{refl}
 use Rattle.unfold_exits.proofs.Places.{bit_mark}
-use borrow.Author.Rules.{rules}
 use Rattle.unfold_exits.proofs.levels.is_marked.Goals as goal
 
 pub returns : goal.returns

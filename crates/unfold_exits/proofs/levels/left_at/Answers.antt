@@ -1,5 +1,4 @@
 use Rattle.unfold_exits.specs.Exits.{left_at}
-use borrow.Author.Rules.{rules}
 use Rattle.unfold_exits.proofs.levels.left_at.Goals as goal
 
 pub returns : goal.returns

@@ -1,12 +1,7 @@
-use Prim.Native.Nat.{◌*◌, ◌-◌, ◌≤◌}
-use mathlib.Core.Path.{◌≡◌, refl, ◌∙◌}
+use mathlib.Core.Path.{refl, ◌∙◌}
 use native.Mathlib.Omega.{arith}
-use lib.ListN.{length}
-use Rattle.unfold_exits.specs.Lists.{Gathered}
-use Rattle.unfold_exits.specs.Exits.{LeavesBy}
 use Rattle.unfold_exits.proofs.Listing.{gathered_none}
 use Rattle.unfold_exits.proofs.Places.{level_listed}
-use borrow.Author.Rules.{rules}
 use Rattle.unfold_exits.proofs.levels.list_level.Goals as goal
 
 pub loop-q-init : goal.loop-q-init

@@ -1,12 +1,8 @@
 use Prim.Native.Nat.{◌*◌, ◌-◌, ◌≤◌}
-use mathlib.Core.Path.{◌≡◌, refl, ◌∙◌}
-use native.Mathlib.Omega.{arith}
+use mathlib.Core.Path.{◌≡◌}
 use lib.ListN.{length}
 use Rattle.unfold_exits.specs.Lists.{Gathered}
 use Rattle.unfold_exits.specs.Exits.{LeavesBy}
-use Rattle.unfold_exits.proofs.Listing.{gathered_none}
-use Rattle.unfold_exits.proofs.Places.{level_listed}
-use borrow.Author.Rules.{rules}
 use Rattle.unfold_exits.proofs.levels.list_level.Given as goal
 
 abbrev pub invariant-loop-q : goal.invariant-loop-q

@@ -1,8 +1,6 @@
 use mathlib.Core.Path.{◌∙◌}
 use native.Mathlib.Omega.{arith}
-use borrow.Author.Tests.{not-true, not-false}
 use Rattle.unfold_exits.proofs.Places.{place_past, place_unmarked, place_beyond, place_listed}
-use borrow.Author.Rules.{rules}
 use Rattle.unfold_exits.proofs.levels.list_place.Goals as goal
 
 pub returns-then-size-e : goal.returns-then-size-e

@@ -1,12 +1,8 @@
 use Prim.Native.Nat.{◌+◌, ◌*◌, ◌-◌, ◌≤◌}
-use mathlib.Core.Path.{◌≡◌, refl, ◌∙◌}
-use native.Mathlib.Omega.{arith}
+use mathlib.Core.Path.{◌≡◌}
 use lib.ListN.{length}
 use Rattle.unfold_exits.specs.Lists.{Gathered}
 use Rattle.unfold_exits.specs.Exits.{LeavesBy}
-use Rattle.unfold_exits.proofs.Listing.{gathered_to}
-use Rattle.unfold_exits.proofs.Places.{word_past}
-use borrow.Author.Rules.{rules}
 use Rattle.unfold_exits.proofs.levels.list_word.Given as goal
 
 abbrev pub invariant-loop-e : goal.invariant-loop-e

@@ -1,10 +1,8 @@
-use mathlib.Core.Path.{◌≡◌, refl}
+use mathlib.Core.Path.{refl}
 use native.Mathlib.Omega.{arith}
 use Rattle.unfold_exits.proofs.Least.{least_more, least_all}
-use Rattle.unfold_exits.specs.Lists.{over_exit, finishing}
-use Prim.Native.Nat.{◌-◌, ◌≤◌}
+use Rattle.unfold_exits.specs.Lists.{finishing}
 use Rattle.unfold_exits.specs.Cost.{least}
-use borrow.Author.Rules.{rules}
 use Rattle.unfold_exits.proofs.lists.finish.Goals as goal
 
 pub loop-i-init : goal.loop-i-init

@@ -1,10 +1,7 @@
-use mathlib.Core.Path.{◌≡◌, refl}
-use native.Mathlib.Omega.{arith}
-use Rattle.unfold_exits.proofs.Least.{least_more, least_all}
-use Rattle.unfold_exits.specs.Lists.{over_exit, finishing}
+use mathlib.Core.Path.{◌≡◌}
+use Rattle.unfold_exits.specs.Lists.{over_exit}
 use Prim.Native.Nat.{◌-◌, ◌≤◌}
 use Rattle.unfold_exits.specs.Cost.{least}
-use borrow.Author.Rules.{rules}
 use Rattle.unfold_exits.proofs.lists.finish.Given as goal
 
 abbrev pub invariant-loop-i : goal.invariant-loop-i

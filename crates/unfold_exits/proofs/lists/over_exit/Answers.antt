@@ -1,6 +1,5 @@
 use Rattle.unfold_exits.proofs.Telling.{entry_in}
 use native.Mathlib.Omega.{arith}
-use borrow.Author.Rules.{rules}
 use Rattle.unfold_exits.proofs.lists.over_exit.Goals as goal
 
 pub overflow_add-row : goal.overflow_add-row

@@ -1,5 +1,4 @@
 use Rattle.unfold_exits.specs.Cost.{told_at}
-use borrow.Author.Rules.{rules}
 use Rattle.unfold_exits.proofs.told.told_at.Goals as goal
 
 pub returns : goal.returns

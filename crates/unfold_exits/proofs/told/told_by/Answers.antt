@@ -1,7 +1,6 @@
 use Rattle.unfold_exits.proofs.Telling.{told_heavy, told_long, told_light}
 use native.Mathlib.Omega.{arith}
 use mathlib.Core.Path.{◌∙◌}
-use borrow.Author.Rules.{rules}
 use Rattle.unfold_exits.proofs.told.told_by.Goals as goal
 
 pub returns-then-weight-gt-HEAVIEST : goal.returns-then-weight-gt-HEAVIEST

@@ -1,6 +1,5 @@
 use Rattle.unfold_exits.proofs.Telling.{row_in}
 use Rattle.unfold_exits.proofs.Landings.{crossed_is}
-use borrow.Author.Rules.{rules}
 use Rattle.unfold_exits.proofs.tunnels.cross.Goals as goal
 
 pub finish-requires : goal.finish-requires

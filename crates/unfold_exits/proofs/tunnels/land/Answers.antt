@@ -1,5 +1,4 @@
 use Rattle.unfold_exits.proofs.Landings.{landed_more}
-use borrow.Author.Rules.{rules}
 use Rattle.unfold_exits.proofs.tunnels.land.Goals as goal
 
 pub returns : goal.returns

@@ -1,10 +1,6 @@
-use Prim.Native.Nat.{◌-◌, ◌≤◌}
-use mathlib.Core.Path.{◌≡◌, refl}
+use mathlib.Core.Path.{refl}
 use native.Mathlib.Omega.{arith}
-use lib.ListN.{length}
-use Rattle.unfold_exits.specs.Exits.{Landed}
 use Rattle.unfold_exits.proofs.Landings.{landed_to}
-use borrow.Author.Rules.{rules}
 use Rattle.unfold_exits.proofs.tunnels.land_all.Goals as goal
 
 pub loop-i-init : goal.loop-i-init

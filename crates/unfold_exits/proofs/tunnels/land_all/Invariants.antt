@@ -1,10 +1,7 @@
 use Prim.Native.Nat.{◌-◌, ◌≤◌}
-use mathlib.Core.Path.{◌≡◌, refl}
-use native.Mathlib.Omega.{arith}
+use mathlib.Core.Path.{◌≡◌}
 use lib.ListN.{length}
 use Rattle.unfold_exits.specs.Exits.{Landed}
-use Rattle.unfold_exits.proofs.Landings.{landed_to}
-use borrow.Author.Rules.{rules}
 use Rattle.unfold_exits.proofs.tunnels.land_all.Given as goal
 
 abbrev pub invariant-loop-i : goal.invariant-loop-i

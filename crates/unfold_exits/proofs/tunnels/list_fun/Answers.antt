@@ -1,6 +1,5 @@
 use native.Mathlib.Omega.{arith}
 use Rattle.unfold_exits.proofs.Landings.{fun_kind_not, fun_x_not, fun_far, fun_listed}
-use borrow.Author.Rules.{rules}
 use Rattle.unfold_exits.proofs.tunnels.list_fun.Goals as goal
 
 pub returns-then-fun_kind-ne2 : goal.returns-then-fun_kind-ne2

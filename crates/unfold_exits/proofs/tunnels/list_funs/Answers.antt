@@ -1,11 +1,6 @@
-use Prim.Native.Nat.{◌-◌, ◌≤◌}
-use mathlib.Core.Path.{◌≡◌, refl, ◌∙◌}
+use mathlib.Core.Path.{refl, ◌∙◌}
 use native.Mathlib.Omega.{arith}
-use lib.ListN.{length, get_or}
-use Rattle.unfold_exits.specs.Lists.{Gathered}
-use Rattle.unfold_exits.specs.Exits.{Unwrapping}
 use Rattle.unfold_exits.proofs.Listing.{gathered_none, gathered_to}
-use borrow.Author.Rules.{rules}
 use Rattle.unfold_exits.proofs.tunnels.list_funs.Goals as goal
 
 pub loop-j-init : goal.loop-j-init

@@ -1,11 +1,8 @@
 use Prim.Native.Nat.{◌-◌, ◌≤◌}
-use mathlib.Core.Path.{◌≡◌, refl, ◌∙◌}
-use native.Mathlib.Omega.{arith}
+use mathlib.Core.Path.{◌≡◌}
 use lib.ListN.{length, get_or}
 use Rattle.unfold_exits.specs.Lists.{Gathered}
 use Rattle.unfold_exits.specs.Exits.{Unwrapping}
-use Rattle.unfold_exits.proofs.Listing.{gathered_none, gathered_to}
-use borrow.Author.Rules.{rules}
 use Rattle.unfold_exits.proofs.tunnels.list_funs.Given as goal
 
 abbrev pub invariant-loop-j : goal.invariant-loop-j

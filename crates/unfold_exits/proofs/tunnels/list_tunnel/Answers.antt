@@ -1,5 +1,4 @@
 use Rattle.unfold_exits.proofs.Landings.{landed_none, landed_most, tunnel_listed}
-use borrow.Author.Rules.{rules}
 use Rattle.unfold_exits.proofs.tunnels.list_tunnel.Goals as goal
 
 pub land_all-requires : goal.land_all-requires

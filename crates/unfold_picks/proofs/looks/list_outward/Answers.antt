@@ -1,5 +1,4 @@
 use Rattle.unfold_picks.proofs.Sought.{looked_reading, looked_lists, looked_crossing}
-use borrow.Author.Rules.{rules}
 use Rattle.unfold_picks.proofs.looks.list_outward.Goals as goal
 
 pub list_level-len-requires : goal.list_level-len-requires

@@ -1,5 +1,4 @@
 use Rattle.unfold_picks.proofs.Sought.{looked_reading, looked_lists, looked_trying}
-use borrow.Author.Rules.{rules}
 use Rattle.unfold_picks.proofs.looks.look_level.Goals as goal
 
 pub list_level-len-requires : goal.list_level-len-requires

@@ -1,7 +1,6 @@
 use mathlib.Core.Path.{refl, ◌∙◌}
 use native.Mathlib.Omega.{arith}
 use Rattle.unfold_picks.proofs.Sought.{looked_trying, no_wraps}
-use borrow.Author.Rules.{rules}
 use Rattle.unfold_picks.proofs.looks.look_tunnel.Goals as goal
 
 pub returns-then-next_fun-funs : goal.returns-then-next_fun-funs

@@ -1,5 +1,4 @@
 use Rattle.unfold_picks.proofs.Adding.{exit_below, exit_marked, exit_left}
-use borrow.Author.Rules.{rules}
 use Rattle.unfold_picks.proofs.opens.mark_out.Goals as goal
 
 pub add_mark-requires : goal.add_mark-requires

@@ -1,11 +1,8 @@
 use Prim.Native.Nat.{◌-◌, ◌≤◌}
-use mathlib.Core.Path.{◌≡◌, refl, ◌∙◌}
-use native.Mathlib.Omega.{arith}
+use mathlib.Core.Path.{◌≡◌}
 use lib.ListN.{length}
 use Rattle.unfold_frames.specs.Frames.{words_for}
 use Rattle.unfold_picks.specs.Opening.{Adds, MeetsOne}
-use Rattle.unfold_picks.proofs.Adding.{meets_none, meets_more, meets_all, still_marking}
-use borrow.Author.Rules.{rules}
 use Rattle.unfold_picks.proofs.opens.mark_outs.Given as goal
 
 abbrev pub invariant-loop-i : goal.invariant-loop-i

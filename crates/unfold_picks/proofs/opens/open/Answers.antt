@@ -1,7 +1,6 @@
 use mathlib.Core.Path.{refl}
 use native.Mathlib.Omega.{arith}
 use Rattle.unfold_picks.proofs.Opened.{open_room, open_look, open_writing, open_kept, open_records}
-use borrow.Author.Rules.{rules}
 use Rattle.unfold_picks.proofs.opens.open.Goals as goal
 
 pub overflow_mul-o : goal.overflow_mul-o

@@ -1,6 +1,5 @@
 use mathlib.Core.Path.{refl}
 use Rattle.unfold_picks.proofs.Opened.{write_marking, written}
-use borrow.Author.Rules.{rules}
 use Rattle.unfold_picks.proofs.opens.write_record.Goals as goal
 
 pub mark_outs-requires : goal.mark_outs-requires

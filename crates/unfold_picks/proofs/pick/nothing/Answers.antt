@@ -1,4 +1,3 @@
-use borrow.Author.Rules.{rules}
 use Rattle.unfold_picks.proofs.pick.nothing.Goals as goal
 
 pub returns : goal.returns

@@ -1,7 +1,6 @@
 use mathlib.Core.Path.{refl}
 use native.Mathlib.Omega.{arith}
 use Rattle.unfold_picks.proofs.Standing.{record_room, look_here, look_below, pick_bottom, pick_inner, one_at_least}
-use borrow.Author.Rules.{rules}
 use Rattle.unfold_picks.proofs.pick.pick.Goals as goal
 
 pub overflow_mul-o : goal.overflow_mul-o

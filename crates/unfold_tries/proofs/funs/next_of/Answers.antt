@@ -1,6 +1,5 @@
 use mathlib.Core.Path.{◌∙◌}
 use Rattle.unfold_tries.proofs.Serves.{unwrap_next, other_next}
-use borrow.Author.Rules.{rules}
 use Rattle.unfold_tries.proofs.funs.next_of.Goals as goal
 
 pub returns-then-kind-eq2 : goal.returns-then-kind-eq2

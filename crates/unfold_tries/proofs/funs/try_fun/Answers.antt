@@ -1,5 +1,4 @@
 use Rattle.unfold_tries.proofs.Serves.{usable, fun_passed, fun_tried}
-use borrow.Author.Rules.{rules}
 use Rattle.unfold_tries.proofs.funs.try_fun.Goals as goal
 
 pub returns-then-kind-fun_y : goal.returns-then-kind-fun_y

@@ -1,11 +1,8 @@
 use Prim.Native.Nat.{◌-◌}
-use native.Mathlib.Omega.{arith}
 use Rattle.network.specs.Network.{funs}
 use Rattle.network.specs.Next.{suits}
 use Rattle.unfold_tries.specs.Trial.{ByFun, sought_by}
-use Rattle.unfold_tries.proofs.Better.{Walked, walk_start, walk_turn, walk_end}
-use Rattle.unfold_tries.proofs.Serves.{fun_elsewhere}
-use borrow.Author.Rules.{rules}
+use Rattle.unfold_tries.proofs.Better.{Walked}
 use Rattle.unfold_tries.proofs.funs.try_funs.Given as goal
 
 abbrev pub invariant-loop-j : goal.invariant-loop-j

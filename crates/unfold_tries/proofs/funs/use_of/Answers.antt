@@ -1,4 +1,3 @@
-use borrow.Author.Rules.{rules}
 use Rattle.unfold_tries.proofs.funs.use_of.Goals as goal
 
 pub returns : goal.returns

@@ -1,4 +1,3 @@
-use borrow.Author.Rules.{rules}
 use Rattle.unfold_tries.proofs.links.key_over.Goals as goal
 
 pub returns : goal.returns

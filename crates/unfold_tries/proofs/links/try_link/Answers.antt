@@ -1,6 +1,4 @@
-use borrow.Author.Tests.{not-true, not-false}
 use Rattle.unfold_tries.proofs.Crossings.{weight_left, link_behind, link_fails, link_passes}
-use borrow.Author.Rules.{rules}
 use Rattle.unfold_tries.proofs.links.try_link.Goals as goal
 
 pub returns-then-not-key_before : goal.returns-then-not-key_before

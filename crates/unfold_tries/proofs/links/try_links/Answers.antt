@@ -1,11 +1,6 @@
-use Prim.Native.Nat.{◌-◌}
 use native.Mathlib.Omega.{arith}
-use Rattle.network.specs.Network.{links}
-use Rattle.network.specs.Next.{leaves}
-use Rattle.unfold_tries.specs.Trial.{OverLink}
-use Rattle.unfold_tries.proofs.Better.{Walked, walk_start, walk_turn, walk_end}
+use Rattle.unfold_tries.proofs.Better.{walk_start, walk_turn, walk_end}
 use Rattle.unfold_tries.proofs.Crossings.{leaves_from, link_elsewhere}
-use borrow.Author.Rules.{rules}
 use Rattle.unfold_tries.proofs.links.try_links.Goals as goal
 
 pub loop-i-init : goal.loop-i-init

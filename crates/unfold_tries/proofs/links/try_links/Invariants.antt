@@ -1,11 +1,8 @@
 use Prim.Native.Nat.{◌-◌}
-use native.Mathlib.Omega.{arith}
 use Rattle.network.specs.Network.{links}
 use Rattle.network.specs.Next.{leaves}
 use Rattle.unfold_tries.specs.Trial.{OverLink}
-use Rattle.unfold_tries.proofs.Better.{Walked, walk_start, walk_turn, walk_end}
-use Rattle.unfold_tries.proofs.Crossings.{leaves_from, link_elsewhere}
-use borrow.Author.Rules.{rules}
+use Rattle.unfold_tries.proofs.Better.{Walked}
 use Rattle.unfold_tries.proofs.links.try_links.Given as goal
 
 abbrev pub invariant-loop-i : goal.invariant-loop-i

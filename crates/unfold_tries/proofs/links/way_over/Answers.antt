@@ -1,6 +1,5 @@
 use Rattle.unfold_exits.proofs.Telling.{row_in}
 use Rattle.unfold_tries.proofs.Crossings.{way_is}
-use borrow.Author.Rules.{rules}
 use Rattle.unfold_tries.proofs.links.way_over.Goals as goal
 
 pub finish-requires : goal.finish-requires

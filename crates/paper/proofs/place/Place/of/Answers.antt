@@ -1,6 +1,5 @@
 use mathlib.Core.Path.{refl}
 use native.Mathlib.Nat.{div-add-mod', mod-lt}
-use borrow.Author.Rules.{rules}
 use Rattle.paper.proofs.place.Place.of.Goals as goal
 
 pub returns : goal.returns
