@@ -1,7 +1,5 @@
-use borrow.Author.Tests.{not-true, not-false}
 use Rattle.enquiry.proofs.Answering.{in_ranges}
 use Rattle.route.proofs.Enquiries.{is_6, is_7, goes_on, still_ready}
-use borrow.Author.Rules.{rules}
 use Rattle.route.proofs.enquire.Goals as goal
 
 pub returns-then-not-in_range : goal.returns-then-not-in_range

@@ -1,4 +1,3 @@
-use borrow.Author.Rules.{rules}
 use Rattle.route.proofs.judge.Goals as goal
 
 pub listen-requires : goal.listen-requires

@@ -1,5 +1,4 @@
 use Rattle.route.proofs.Enquiries.{in_room}
-use borrow.Author.Rules.{rules}
 use Rattle.route.proofs.respond.Goals as goal
 
 pub slice_bounds-write_all-end : goal.slice_bounds-write_all-end

@@ -2,7 +2,6 @@ use mathlib.Core.Path.{refl, sym}
 use mathlib.Core.Bool.{true≢false}
 use Rattle.enquiry.proofs.Answering.{made_ready}
 use Rattle.route.proofs.Enquiries.{small}
-use borrow.Author.Rules.{rules}
 use Rattle.route.proofs.tabulate.Goals as goal
 
 pub serve-requires : goal.serve-requires
