@@ -3,10 +3,10 @@ use mathlib.Core.Path.{◌≡◌, sym, ◌∙◌}
 use mathlib.Core.Bool.{Bool, true, false}
 use mathlib.Core.List.{List}
 use mathlib.Core.Option.{Option}
-use Prim.Native.Nat.{ℕ, ◌-◌, ◌≤◌}
+use Prim.Native.Nat.{ℕ, ◌≤◌}
 use native.Mathlib.Nat.{mul-le-mul}
 use native.Mathlib.Omega.{arith}
-use lib.ListN.{length, take, length-take}
+use lib.ListN.{length}
 use Rattle.paper.specs.Net.{Key}
 use Rattle.paper.specs.Trace.{trace}
 use Rattle.paper.specs.Program.{Replies, six, seven, on}
@@ -56,7 +56,3 @@ small g N W C X o e h w c x =
     let m : places g ≤ 64 = rw e at h in
     let q = mul-le-mul m m in
     record { arranged = o; weights = omega (arith, q); counts = omega (arith, q); choices = omega (arith, q) }
-
--- what was read is no longer than the limit
-pub short_input : (k : ℕ) (l : List ℕ) → k ≤ 65536 → length (take (k - 0) l) ≤ 65536
-short_input k l h = omega (arith, length-take (k - 0) l)
