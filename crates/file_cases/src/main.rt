@@ -101,7 +101,8 @@ fn all(rt: &impl Print, cases: &[u8]) -> io::Result<()> {
 fn small(rt: &(impl Files + Print), room: &mut [u8]) -> io::Result<()> {
     match fs::open(rt, "cases") {
         Ok(mut file) => {
-            let n = read_full(&mut file, room)?;
+            let (n, ended) = read_full(&mut file, room);
+            ended?;
             all(rt, &room[0..n])
         }
         Err(_) => Ok(()),

@@ -1,7 +1,7 @@
 // What the programs share: net.tsv is loaded, and a reply that is no trace and no normal file is written.
 #![tactic(auto)]
 
-ghost use Rattle.std.specs.Prelude.{ℕ, [], ◌∷◌, ◌≤◌, ◌<◌, IfOk, OnErr, take, length};
+ghost use Rattle.std.specs.Prelude.{[], ◌∷◌, ◌≤◌, ◌<◌, OnOk, take, length};
 ghost use Rattle.std.specs.Io.KnownBytes.{Consumes, IsAtEnd};
 ghost use Rattle.paper.specs.Text.{decimal, written};
 ghost use Rattle.digits.specs.Write.{Put};
@@ -11,31 +11,34 @@ use std::io::Read;
 use std::rt::Files;
 use std::{fs, io};
 
-// As much of the input as the room holds, and how much that is. What was read before an error stands in the room too.
-pub fn read_full<R: Read>(input: &mut R, room: &mut [u8]) -> io::Result<usize>
-    ensures fits { IfOk result (λ n. n ≤ length room.new) }
-    ensures bytes { IfOk result (λ n. Consumes (R.remaining input.old) (R.remaining input.new) (take n room.new)) }
-    ensures end { IfOk result (λ n. n < length room.new → IsAtEnd (R.remaining input.new)) }
-    ensures err { OnErr result ((n : ℕ) × (n ≤ length room.new) × Consumes (R.remaining input.old) (R.remaining input.new) (take n room.new)) }
+// As much of the input as the room holds, how much that is, and whether a read failed, which ends the reading.
+pub fn read_full<R: Read>(input: &mut R, room: &mut [u8]) -> (usize, io::Result<()>)
+    ensures fits { result.0 ≤ length room.new }
+    ensures bytes { Consumes (R.remaining input.old) (R.remaining input.new) (take result.0 room.new) }
+    ensures end { OnOk result.1 (result.0 < length room.new → IsAtEnd (R.remaining input.new)) }
 {
     let mut at: usize = 0;
     while at < room.len() {
-        let n = input.read(&mut room[at..])?;
-        if n == 0 {
-            break;
+        match input.read(&mut room[at..]) {
+            Ok(n) => {
+                if n == 0 {
+                    break;
+                }
+                at += n;
+            }
+            Err(e) => return (at, Err(e)),
         }
-        at += n;
     }
-    Ok(at)
+    (at, Ok(()))
 }
 
 // As much of net.tsv as the room holds, and how much that is; a file that cannot be opened counts as an empty one,
-// and so does one that opens but cannot be read.
+// and of one whose reading fails counts what was read.
 pub fn load_file(rt: &impl Files, room: &mut [u8]) -> usize
     ensures { result ≤ length room.new }
 {
     match fs::open(rt, "net.tsv") {
-        Ok(mut file) => read_full(&mut file, room).unwrap_or(0),
+        Ok(mut file) => read_full(&mut file, room).0,
         Err(_) => 0,
     }
 }

@@ -138,7 +138,8 @@ fn listen(rt: &(impl Input + Print), net: &[u32]) -> io::Result<()>
     requires { Arranged net.now }
 {
     let mut input = [0u8; 65537];
-    let k = read_full(&mut rt.reader(), &mut input)?;
+    let (k, ended) = read_full(&mut rt.reader(), &mut input);
+    ended?;
     if MOST_BYTES < k {
         return write_reply(rt, b"badask", 1, 0);
     }

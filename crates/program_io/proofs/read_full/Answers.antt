@@ -18,7 +18,7 @@ taken a k n xs ys within fits =
 
 pub loop-at-preserved : goal.loop-at-preserved
 loop-at-preserved g c =
-    let read = c.in_ok-n.ensures in
+    let read = c.in-Ok.ensures in
     let i = c.loop-at.invariant in
     record {
       length_kept = search rules;
