@@ -71,7 +71,7 @@ def own_names(root):
             m = DECLARED.match(line)
             if m and " : tie." not in line and not m.group(1).endswith("-spec"):
                 own |= set(m.group(1).split())
-    return {n for n in own if "-" in n or re.search(r"^[a-z].*[a-z0-9][A-Z]", n)} - {"not-true", "not-false"}
+    return {n for n in own if "-" in n or (n[0].islower() and re.search(r"[a-z0-9][A-Z]", n))} - {"not-true", "not-false"}
 
 
 def respell(path, rel, table):

@@ -10,7 +10,7 @@ use Rattle.paper.specs.Text.{decimal, tabbed, written, net_word, link_word, fun_
 use Rattle.paper.specs.Rooms.{laid}
 use Rattle.paper.specs.Normal.{kind_word, net_text, link_text, fun_text, texts, normal}
 use Rattle.network_records.specs.declared.Size.{Size}
-use Rattle.network_records.specs.Columns.{node, kind, xOf, yOf, fee, kind_of_code, link_at, fun_at, rows, link_rows, fun_rows, net_of}
+use Rattle.network_records.specs.Columns.{node, kind, x_of, y_of, fee, kind_of_code, link_at, fun_at, rows, link_rows, fun_rows, net_of}
 use Rattle.digits.specs.Write.{Put}
 use Rattle.file_normal.specs.Line.{last_fields}
 use Rattle.digits.proofs.Writing.{then}
@@ -66,7 +66,7 @@ module _ (ls : List ℕ) (i : ℕ) (h : i * 4 + 4 ≤ length ls) where
 -- ## A function's line
 
 module _ (fs : List ℕ) (j : ℕ) (h : j * 5 + 5 ≤ length fs) where
-  last_numbers : take (j * 5 + 5 - (j * 5 + 2)) (drop (j * 5 + 2) fs) ≡ xOf fs j ∷ yOf fs j ∷ fee fs j ∷ []
+  last_numbers : take (j * 5 + 5 - (j * 5 + 2)) (drop (j * 5 + 2) fs) ≡ x_of fs j ∷ y_of fs j ∷ fee fs j ∷ []
   unfolding rows
   last_numbers =
       let y : j * 5 + 2 + 1 ≡ j * 5 + 3 = omega arith in
@@ -78,7 +78,7 @@ module _ (fs : List ℕ) (j : ℕ) (h : j * 5 + 5 ≤ length fs) where
   unfolding fun_text fun_at fun_word last_fields
   fun_parts =
       rw last_numbers
-      (two_fields fun_word (decimal (node fs j)) (kind_word (kind_of_code (kind fs j))) (decimal (xOf fs j) ∷ decimal (yOf fs j) ∷ decimal (fee fs j) ∷ []))
+      (two_fields fun_word (decimal (node fs j)) (kind_word (kind_of_code (kind fs j))) (decimal (x_of fs j) ∷ decimal (y_of fs j) ∷ decimal (fee fs j) ∷ []))
 
   pub fun_length : length (fun_text (fun_at fs j))
       ≡ 5 + length (decimal (node fs j)) + length (kind_word (kind_of_code (kind fs j))) + length (last_fields fs (j * 5 + 2) (j * 5 + 5))

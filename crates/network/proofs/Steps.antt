@@ -7,13 +7,13 @@ use Rattle.paper.specs.Net.{Kind, code, key}
 use Rattle.laws.proofs.Fixpoint as fixpoint
 use Rattle.network_records.specs.Columns.{kind_of_code}
 use Rattle.network_records.proofs.Links as columns
-use Rattle.network.specs.Network.{nodes, protocols, links, funs, size_of, links_room, funs_room, number, from, to, toll, node, kind, xOf, yOf, fee, hop_in}
+use Rattle.network.specs.Network.{nodes, protocols, links, funs, size_of, links_room, funs_room, number, from, to, toll, node, kind, x_of, y_of, fee, hop_in}
 use Rattle.network.specs.Arranged.{Arranged}
 
 module _ (g : List ℕ) (o : Arranged g) where
   -- function j over link i, where both leave v
-  pub step_at : (j i v k x : ℕ) → j < funs g → i < links g → from g i ≡ node g j → node g j ≡ v → kind g j ≡ k → xOf g j ≡ x
-      → hop_in g (key (number g i) (kind_of_code k) x (yOf g j)) v ≡ some (to g i, fee g j + toll g i)
+  pub step_at : (j i v k x : ℕ) → j < funs g → i < links g → from g i ≡ node g j → node g j ≡ v → kind g j ≡ k → x_of g j ≡ x
+      → hop_in g (key (number g i) (kind_of_code k) x (y_of g j)) v ≡ some (to g i, fee g j + toll g i)
   step_at = columns.step_at (size_of g) (links_room g) (funs_room g) o.valid
 
   -- the function and the link of a step

@@ -7,7 +7,7 @@ use native.Mathlib.Omega.{arith}
 use lib.Dec.{eqb}
 use borrow.Author.Tests.{eqb-true, eq-eqb}
 use Rattle.laws.proofs.Before.{and_left}
-use Rattle.network.specs.Network.{nodes, links, funs, link_start, fun_start, from, node, kind, xOf}
+use Rattle.network.specs.Network.{nodes, links, funs, link_start, fun_start, from, node, kind, x_of}
 use Rattle.network.specs.Arranged.{Arranged}
 use Rattle.network.specs.Next.{leaves, suits, Next}
 use Rattle.network.proofs.Groups.{Walked, walk_start, walk_on, walk_found, walk_end, home_is, starts_end}
@@ -39,9 +39,9 @@ module _ (g : List ℕ) (o : Arranged g) (i v : ℕ) (of_node : v < nodes g) whe
   module _ (c x : ℕ) where
     suits_own : (j : ℕ) → suits g v c x j ≡ true → node g j ≡ v
     unfolding suits
-    suits_own j e = eqb-true (node g j) v (and_left (eqb (node g j) v) (eqb (kind g j) c && eqb (xOf g j) x) e)
+    suits_own j e = eqb-true (node g j) v (and_left (eqb (node g j) v) (eqb (kind g j) c && eqb (x_of g j) x) e)
 
-    suits_is : (j : ℕ) (b : Bool) → node g j ≡ v → b ≡ (eqb (kind g j) c && eqb (xOf g j) x) → suits g v c x j ≡ b
+    suits_is : (j : ℕ) (b : Bool) → node g j ≡ v → b ≡ (eqb (kind g j) c && eqb (x_of g j) x) → suits g v c x j ≡ b
     unfolding suits
     suits_is j b e f = rw (eq-eqb (node g j) v e, f)
 
@@ -55,13 +55,13 @@ module _ (g : List ℕ) (o : Arranged g) (i v : ℕ) (of_node : v < nodes g) whe
       pub fun_below : k < t → k < funs g
       fun_below l = let m : k < fun_start g (suc v) = rw (fun_end_is) at l in omega (arith, starts_end o.by_node (suc v) (omega arith))
 
-      suited : (b : Bool) → k < t → b ≡ (eqb (kind g k) c && eqb (xOf g k) x) → suits g v c x k ≡ b
+      suited : (b : Bool) → k < t → b ≡ (eqb (kind g k) c && eqb (x_of g k) x) → suits g v c x k ≡ b
       suited b l e = suits_is k b (home_is o.by_node (suits g v c x) i v of_node suits_own k w (rw (fun_end_is) at l)) e
 
-      pub fun_found : (b : Bool) → k < t → b ≡ (eqb (kind g k) c && eqb (xOf g k) x) → b ≡ true → Next (suits g v c x) (funs g) i k
+      pub fun_found : (b : Bool) → k < t → b ≡ (eqb (kind g k) c && eqb (x_of g k) x) → b ≡ true → Next (suits g v c x) (funs g) i k
       fun_found b l e h = walk_found o.by_node (suits g v c x) i v of_node suits_own k w (rw (fun_end_is) at l) (suited true l (rw (← h) e))
 
-      pub fun_on : (b : Bool) → k < t → b ≡ (eqb (kind g k) c && eqb (xOf g k) x) → b ≡ false → Walked (fun_start g) (suits g v c x) i v (k + 1)
+      pub fun_on : (b : Bool) → k < t → b ≡ (eqb (kind g k) c && eqb (x_of g k) x) → b ≡ false → Walked (fun_start g) (suits g v c x) i v (k + 1)
       fun_on b l e h = walk_on o.by_node (suits g v c x) i v of_node suits_own k w (suited false l (rw (← h) e))
 
       pub fun_none : i ≤ funs g → (k < t → ⊥) → Next (suits g v c x) (funs g) i (funs g)

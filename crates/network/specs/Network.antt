@@ -83,11 +83,11 @@ node g j = columns.node (funs_room g) j
 abbrev pub kind : List ℕ → ℕ → ℕ
 kind g j = columns.kind (funs_room g) j
 
-abbrev pub xOf : List ℕ → ℕ → ℕ
-xOf g j = columns.xOf (funs_room g) j
+abbrev pub x_of : List ℕ → ℕ → ℕ
+x_of g j = columns.x_of (funs_room g) j
 
-abbrev pub yOf : List ℕ → ℕ → ℕ
-yOf g j = columns.yOf (funs_room g) j
+abbrev pub y_of : List ℕ → ℕ → ℕ
+y_of g j = columns.y_of (funs_room g) j
 
 abbrev pub fee : List ℕ → ℕ → ℕ
 fee g j = columns.fee (funs_room g) j

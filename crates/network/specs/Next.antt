@@ -1,6 +1,6 @@
 -- Which records a walk over those of a node yields: just those that a scan of all records finds. Assumes nothing: these are definitions.
 use Rattle.std.specs.Prelude.{ℕ, ◌<◌, ◌≤◌, ◌≡◌, Bool, true, false, ◌&&◌, List, eqb}
-use Rattle.network.specs.Network.{from, node, kind, xOf}
+use Rattle.network.specs.Network.{from, node, kind, x_of}
 
 -- link i leaves node v
 unfoldable pub leaves : (g : List ℕ) (v i : ℕ) → Bool
@@ -8,7 +8,7 @@ leaves g v i = eqb (from g i) v
 
 -- function j is one of node v, of kind k, for the protocol x
 unfoldable pub suits : (g : List ℕ) (v k x j : ℕ) → Bool
-suits g v k x j = eqb (node g j) v && (eqb (kind g j) k && eqb (xOf g j) x)
+suits g v k x j = eqb (node g j) v && (eqb (kind g j) k && eqb (x_of g j) x)
 
 -- r is the first of the numbers from i on of which the test holds, or their end n
 pub record Next (test : ℕ → Bool) (n i r : ℕ) : Type 0 where

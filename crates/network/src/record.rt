@@ -1,6 +1,6 @@
 // One record of the network: its fields, each with the range that it is known to be in.
 ghost use Rattle.std.specs.Prelude.{◌≡◌, ◌<◌, ◌≤◌, length};
-ghost use Rattle.network.specs.Network.{room_size, links_room, funs_room, nodes, protocols, links, funs, number, from, to, toll, node, kind, xOf, yOf, fee};
+ghost use Rattle.network.specs.Network.{room_size, links_room, funs_room, nodes, protocols, links, funs, number, from, to, toll, node, kind, x_of, y_of, fee};
 ghost use Rattle.network.specs.Arranged.{Arranged};
 
 use crate::walk::FUN_STARTS;
@@ -70,14 +70,14 @@ pub fn fun_kind(net: &[u32], j: usize) -> usize
 
 pub fn fun_x(net: &[u32], j: usize) -> usize
     requires { Arranged net.now × (j < funs net.now) }
-    ensures { (result ≡ xOf net.now j) × (result < protocols net.now) }
+    ensures { (result ≡ x_of net.now j) × (result < protocols net.now) }
 {
     network_records::fun_x(fun_room(net), j)
 }
 
 pub fn fun_y(net: &[u32], j: usize) -> usize
     requires { Arranged net.now × (j < funs net.now) }
-    ensures { (result ≡ yOf net.now j) × (result < protocols net.now) }
+    ensures { (result ≡ y_of net.now j) × (result < protocols net.now) }
 {
     network_records::fun_y(fun_room(net), j)
 }

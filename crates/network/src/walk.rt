@@ -1,6 +1,6 @@
 // The records of a node, one after another: only they are looked at, and they are those that a scan of all records finds.
 ghost use Rattle.std.specs.Prelude.{◌≡◌, ◌&&◌, ◌+◌, ◌<◌, ◌≤◌, max, eqb};
-ghost use Rattle.network.specs.Network.{nodes, links, funs, link_start, fun_start, kind, xOf};
+ghost use Rattle.network.specs.Network.{nodes, links, funs, link_start, fun_start, kind, x_of};
 ghost use Rattle.network.specs.Arranged.{Arranged};
 ghost use Rattle.network.specs.Next.{leaves, suits, Next};
 
@@ -49,7 +49,7 @@ pub fn next_link(net: &[u32], i: usize, v: usize) -> usize
 // Whether function j is of this kind, for the protocol x.
 pub fn is_for(net: &[u32], j: usize, k: usize, x: usize) -> bool
     requires { Arranged net.now × (j < funs net.now) }
-    ensures { result ≡ (eqb (kind net.now j) k && eqb (xOf net.now j) x) }
+    ensures { result ≡ (eqb (kind net.now j) k && eqb (x_of net.now j) x) }
 {
     (fun_kind(net, j) == k) & (fun_x(net, j) == x)
 }

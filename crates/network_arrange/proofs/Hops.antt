@@ -6,7 +6,7 @@ use mathlib.Core.Option.{Option, none, some}
 use native.Mathlib.Omega.{arith}
 use Rattle.paper.specs.Net.{Kind, Key, key}
 use Rattle.network_records.specs.declared.Size.{Size}
-use Rattle.network_records.specs.Columns.{link_width, fun_width, number, from, to, toll, node, kind, xOf, yOf, fee, kind_of_code, hop_of}
+use Rattle.network_records.specs.Columns.{link_width, fun_width, number, from, to, toll, node, kind, x_of, y_of, fee, kind_of_code, hop_of}
 use Rattle.network_records.specs.Valid.{Valid}
 use Rattle.network_records.proofs.Links.{Found, found, step_at}
 use Rattle.network_arrange.proofs.Regrouped.{Same}
@@ -31,12 +31,12 @@ module _ (z : Size) (ls fs ls' fs' : List ℕ) (v : Valid z ls fs) (v' : Valid z
           let at_from : from ls' i.at ≡ at = sym (i.same 1 (omega arith)) ∙ f.at_from in
           let is_number : number ls' i.at ≡ l = sym i.first ∙ f.has_number in
           let is_kind : kind_of_code (kind fs' j.at) ≡ k = ap kind_of_code (sym (j.same 1 (omega arith))) ∙ f.has_kind in
-          let is_x : xOf fs' j.at ≡ x = sym (j.same 2 (omega arith)) ∙ f.has_x in
-          let is_y : yOf fs' j.at ≡ y = sym (j.same 3 (omega arith)) ∙ f.has_y in
+          let is_x : x_of fs' j.at ≡ x = sym (j.same 2 (omega arith)) ∙ f.has_x in
+          let is_y : y_of fs' j.at ≡ y = sym (j.same 3 (omega arith)) ∙ f.has_y in
           let is_to : to ls' i.at ≡ r.0 = sym (i.same 2 (omega arith)) ∙ f.has_to in
           let is_weight : fee fs' j.at + toll ls' i.at ≡ r.1 =
           omega (arith, j.same 4 (omega arith), i.same 3 (omega arith), f.has_weight) in
-          let s = step_at z ls' fs' v' j.at i.at at (kind fs' j.at) (xOf fs' j.at) j.below i.below (at_from ∙ sym at_node) at_node refl refl in
+          let s = step_at z ls' fs' v' j.at i.at at (kind fs' j.at) (x_of fs' j.at) j.below i.below (at_from ∙ sym at_node) at_node refl refl in
           rw (is_number, is_kind, is_x, is_y, is_to, is_weight) at s
 
 module _ (z : Size) (ls fs ls' fs' : List ℕ) (v : Valid z ls fs) (v' : Valid z ls' fs') where

@@ -10,7 +10,7 @@ use Rattle.paper.specs.File.{link_key, fun_key, accepted, judge}
 use Rattle.laws.proofs.Fold.{SoundAt}
 use Rattle.laws.proofs.Demand3.{known}
 use Rattle.laws.proofs.Shapes.{net_range, link_range, fun_range}
-use Rattle.network_records.specs.Columns.{number, from, to, toll, node, kind, xOf, yOf, fee, kind_of_code, link_at, fun_at, rows, link_rows, fun_rows, net_of}
+use Rattle.network_records.specs.Columns.{number, from, to, toll, node, kind, x_of, y_of, fee, kind_of_code, link_at, fun_at, rows, link_rows, fun_rows, net_of}
 use Rattle.network_records.specs.declared.Size.{Size}
 use Rattle.network_records.specs.Valid.{Valid}
 use Rattle.network_records.proofs.Rows.{length_rows, rows_mem, sorted_once}
@@ -20,16 +20,16 @@ module _ (z : Size) (ls fs : List ℕ) (s : SoundAt z.nodes z.protocols (rows (l
   unfolding link_at
   link_in i h = link_range z.nodes (number ls i) (from ls i) (to ls i) (toll ls i) (s.links_fit (link_at ls i) (rows_mem z.links 0 i (link_at ls) (omega arith) (omega arith)))
 
-  fun_in : (j : ℕ) → j < z.funs → (node fs j < z.nodes) × (xOf fs j < z.protocols) × (yOf fs j < z.protocols) × (fee fs j ≤ 1000000000)
+  fun_in : (j : ℕ) → j < z.funs → (node fs j < z.nodes) × (x_of fs j < z.protocols) × (y_of fs j < z.protocols) × (fee fs j ≤ 1000000000)
   unfolding fun_at
   fun_in j h =
-      fun_range z.nodes z.protocols (node fs j) (kind_of_code (kind fs j)) (xOf fs j) (yOf fs j) (fee fs j) (s.funs_fit (fun_at fs j) (rows_mem z.funs 0 j (fun_at fs) (omega arith) (omega arith)))
+      fun_range z.nodes z.protocols (node fs j) (kind_of_code (kind fs j)) (x_of fs j) (y_of fs j) (fee fs j) (s.funs_fit (fun_at fs j) (rows_mem z.funs 0 j (fun_at fs) (omega arith) (omega arith)))
 
   link_key_lem : (i j : ℕ) → number ls i ≡ number ls j → link_key (link_at ls i) ≡ link_key (link_at ls j)
   unfolding link_at link_key
   link_key_lem i j e = cc
 
-  fun_key_lem : (i j : ℕ) → node fs i ≡ node fs j → kind fs i ≡ kind fs j → xOf fs i ≡ xOf fs j → yOf fs i ≡ yOf fs j → fun_key (fun_at fs i) ≡ fun_key (fun_at fs j)
+  fun_key_lem : (i j : ℕ) → node fs i ≡ node fs j → kind fs i ≡ kind fs j → x_of fs i ≡ x_of fs j → y_of fs i ≡ y_of fs j → fun_key (fun_at fs i) ≡ fun_key (fun_at fs j)
   unfolding fun_at fun_key
   fun_key_lem i j e f g h = cc (ap (λ (k : ℕ). code (kind_of_code k)) f)
 

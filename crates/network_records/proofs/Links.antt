@@ -10,7 +10,7 @@ use Rattle.laws.specs.Sets.{Mem}
 use Rattle.laws.proofs.Check.{Behind, behind}
 use Rattle.laws.proofs.Lookup.{OnceL, OnceF, hop_once}
 use Rattle.laws.proofs.Fixpoint as fixpoint
-use Rattle.network_records.specs.Columns.{number, from, to, toll, node, kind, xOf, yOf, fee, rows, kind_of_code, link_at, fun_at, link_rows, fun_rows, net_of, hop_of}
+use Rattle.network_records.specs.Columns.{number, from, to, toll, node, kind, x_of, y_of, fee, rows, kind_of_code, link_at, fun_at, link_rows, fun_rows, net_of, hop_of}
 use Rattle.network_records.specs.declared.Size.{Size}
 use Rattle.network_records.specs.Valid.{Valid}
 use Rattle.network_records.proofs.Rows.{rows_mem, mem_row}
@@ -48,11 +48,11 @@ module _ (z : Size) (ls fs : List ℕ) (valid : Valid z ls fs) where
   once_funs i zero l = tt
   once_funs i (suc k) l = (
     λ w m.
-        let r = mem_row k (suc i) (fun_at fs) (fun (node fs i) (kind_of_code (kind fs i)) (xOf fs i) (yOf fs i) w) m in
+        let r = mem_row k (suc i) (fun_at fs) (fun (node fs i) (kind_of_code (kind fs i)) (x_of fs i) (y_of fs i) w) m in
         let a : node fs i ≡ node fs r.at = cc r.is in
         let b : kind_of_code (kind fs i) ≡ kind_of_code (kind fs r.at) = cc r.is in
-        let c : xOf fs i ≡ xOf fs r.at = cc r.is in
-        let d : yOf fs i ≡ yOf fs r.at = cc r.is in
+        let c : x_of fs i ≡ x_of fs r.at = cc r.is in
+        let d : y_of fs i ≡ y_of fs r.at = cc r.is in
         let hi : i < z.funs = omega arith in
         let hr : r.at < z.funs = omega (arith, r.high) in
         let f = valid.fun_once i r.at hi hr a (kind_inj (kind fs i) (kind fs r.at) (valid.fun_kind i hi) (valid.fun_kind r.at hr) b) c d in
@@ -61,15 +61,15 @@ module _ (z : Size) (ls fs : List ℕ) (valid : Valid z ls fs) where
   )
 
   -- function j over link i, where both leave v
-  pub step_at : (j i v k x : ℕ) → j < z.funs → i < z.links → from ls i ≡ node fs j → node fs j ≡ v → kind fs j ≡ k → xOf fs j ≡ x
-      → h (key (number ls i) (kind_of_code k) x (yOf fs j)) v ≡ some (to ls i, fee fs j + toll ls i)
+  pub step_at : (j i v k x : ℕ) → j < z.funs → i < z.links → from ls i ≡ node fs j → node fs j ≡ v → kind fs j ≡ k → x_of fs j ≡ x
+      → h (key (number ls i) (kind_of_code k) x (y_of fs j)) v ≡ some (to ls i, fee fs j + toll ls i)
   unfolding hop_of net_of link_rows fun_rows fun_at link_at
   step_at j i v k x hj hi e a b c =
       let f : from ls i ≡ v = e ∙ a in
-      hop_once z.nodes z.protocols (rows (link_at ls) 0 z.links) (rows (fun_at fs) 0 z.funs) (once_links 0 z.links (omega arith)) (once_funs 0 z.funs (omega arith)) v (kind_of_code k) x (yOf fs j) (fee fs j) (number ls i) (to ls i) (toll ls i)
+      hop_once z.nodes z.protocols (rows (link_at ls) 0 z.links) (rows (fun_at fs) 0 z.funs) (once_links 0 z.links (omega arith)) (once_funs 0 z.funs (omega arith)) v (kind_of_code k) x (y_of fs j) (fee fs j) (number ls i) (to ls i) (toll ls i)
       (is_fun (rows_mem z.funs 0 j (fun_at fs) (omega arith) (omega arith))) (is_link f (rows_mem z.links 0 i (link_at ls) (omega arith) (omega arith)))
     where
-      is_fun : Mem (fun_at fs j) (rows (fun_at fs) 0 z.funs) → Mem (fun v (kind_of_code k) x (yOf fs j) (fee fs j)) (rows (fun_at fs) 0 z.funs)
+      is_fun : Mem (fun_at fs j) (rows (fun_at fs) 0 z.funs) → Mem (fun v (kind_of_code k) x (y_of fs j) (fee fs j)) (rows (fun_at fs) 0 z.funs)
       is_fun m = rw (← a, ← b, ← c) m
 
       is_link : from ls i ≡ v → Mem (link_at ls i) (rows (link_at ls) 0 z.links) → Mem (link (number ls i) v (to ls i) (toll ls i)) (rows (link_at ls) 0 z.links)
@@ -84,8 +84,8 @@ module _ (z : Size) (ls fs : List ℕ) (valid : Valid z ls fs) where
     pub at_node : node fs j ≡ v
     pub at_from : from ls i ≡ v
     pub has_kind : kind_of_code (kind fs j) ≡ c
-    pub has_x : xOf fs j ≡ x
-    pub has_y : yOf fs j ≡ y
+    pub has_x : x_of fs j ≡ x
+    pub has_y : y_of fs j ≡ y
     pub has_to : to ls i ≡ u
     pub has_weight : w ≡ fee fs j + toll ls i
     pub has_number : number ls i ≡ l

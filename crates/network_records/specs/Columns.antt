@@ -71,11 +71,11 @@ node fs j = get_or fs (j * fun_width) 0
 abbrev pub kind : List ℕ → ℕ → ℕ
 kind fs j = get_or fs (j * fun_width + kind_at) 0
 
-abbrev pub xOf : List ℕ → ℕ → ℕ
-xOf fs j = get_or fs (j * fun_width + x_at) 0
+abbrev pub x_of : List ℕ → ℕ → ℕ
+x_of fs j = get_or fs (j * fun_width + x_at) 0
 
-abbrev pub yOf : List ℕ → ℕ → ℕ
-yOf fs j = get_or fs (j * fun_width + y_at) 0
+abbrev pub y_of : List ℕ → ℕ → ℕ
+y_of fs j = get_or fs (j * fun_width + y_at) 0
 
 abbrev pub fee : List ℕ → ℕ → ℕ
 fee fs j = get_or fs (j * fun_width + fee_at) 0
@@ -88,7 +88,7 @@ unfoldable pub link_at : List ℕ → ℕ → Link
 link_at ls i = link (number ls i) (from ls i) (to ls i) (toll ls i)
 
 unfoldable pub fun_at : List ℕ → ℕ → Fun
-fun_at fs j = fun (node fs j) (kind_of_code (kind fs j)) (xOf fs j) (yOf fs j) (fee fs j)
+fun_at fs j = fun (node fs j) (kind_of_code (kind fs j)) (x_of fs j) (y_of fs j) (fee fs j)
 
 -- f i, f (i + 1), .., k of them
 unfoldable pub rows : {A : Type 0} → (ℕ → A) → ℕ → ℕ → List A

@@ -2,7 +2,7 @@
 use Rattle.std.specs.Prelude.{ℕ, ◌*◌, ◌<◌, ◌≤◌, ◌≡◌, List, length}
 use Rattle.paper.specs.Limits.{most_nodes, most_protocols, most_places, most_number, most_weight, most_records}
 use Rattle.network_records.specs.declared.Size.{Size}
-use Rattle.network_records.specs.Columns.{link_width, fun_width, number, from, to, toll, node, kind, xOf, yOf, fee}
+use Rattle.network_records.specs.Columns.{link_width, fun_width, number, from, to, toll, node, kind, x_of, y_of, fee}
 
 pub record Valid (z : Size) (ls fs : List ℕ) : Type 0 where
   pub some_node : 1 ≤ z.nodes
@@ -21,7 +21,7 @@ pub record Valid (z : Size) (ls fs : List ℕ) : Type 0 where
   pub link_once : (i j : ℕ) → i < z.links → j < z.links → number ls i ≡ number ls j → i ≡ j
   pub fun_node : (j : ℕ) → j < z.funs → node fs j < z.nodes
   pub fun_kind : (j : ℕ) → j < z.funs → kind fs j < 3
-  pub fun_x : (j : ℕ) → j < z.funs → xOf fs j < z.protocols
-  pub fun_y : (j : ℕ) → j < z.funs → yOf fs j < z.protocols
+  pub fun_x : (j : ℕ) → j < z.funs → x_of fs j < z.protocols
+  pub fun_y : (j : ℕ) → j < z.funs → y_of fs j < z.protocols
   pub fun_weight : (j : ℕ) → j < z.funs → fee fs j ≤ most_weight
-  pub fun_once : (i j : ℕ) → i < z.funs → j < z.funs → node fs i ≡ node fs j → kind fs i ≡ kind fs j → xOf fs i ≡ xOf fs j → yOf fs i ≡ yOf fs j → i ≡ j
+  pub fun_once : (i j : ℕ) → i < z.funs → j < z.funs → node fs i ≡ node fs j → kind fs i ≡ kind fs j → x_of fs i ≡ x_of fs j → y_of fs i ≡ y_of fs j → i ≡ j

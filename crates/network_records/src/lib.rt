@@ -2,7 +2,7 @@
 #![tactic(auto)]
 
 ghost use Rattle.std.specs.Prelude.{◌≡◌, ◌+◌, ◌*◌, ◌≤◌, length};
-ghost use Rattle.network_records.specs.Columns.{link_width, fun_width, number, from, to, toll, node, kind, xOf, yOf, fee};
+ghost use Rattle.network_records.specs.Columns.{link_width, fun_width, number, from, to, toll, node, kind, x_of, y_of, fee};
 
 use paper::limits::MOST_RECORDS;
 
@@ -98,14 +98,14 @@ pub fn fun_kind(funs: &[u32], j: usize) -> usize
 
 pub fn fun_x(funs: &[u32], j: usize) -> usize
     requires { j * fun_width + fun_width ≤ length funs.now }
-    ensures { result ≡ xOf funs.now j }
+    ensures { result ≡ x_of funs.now j }
 {
     index(funs[j * FUN_WIDTH + X])
 }
 
 pub fn fun_y(funs: &[u32], j: usize) -> usize
     requires { j * fun_width + fun_width ≤ length funs.now }
-    ensures { result ≡ yOf funs.now j }
+    ensures { result ≡ y_of funs.now j }
 {
     index(funs[j * FUN_WIDTH + Y])
 }

@@ -6,16 +6,16 @@ use mathlib.Core.List.{List}
 use borrow.Author.Tests.{le-leb, lt-leb}
 use lib.Dec.{eqb}
 use lib.ListN.{get_or}
-use Rattle.network.specs.Network.{from, to, toll, node, kind, xOf, yOf, fee, place_in}
+use Rattle.network.specs.Network.{from, to, toll, node, kind, x_of, y_of, fee, place_in}
 use Rattle.tables_costs.specs.Costs.{far, lower_to}
 use Rattle.tables_sweeps.specs.Row.{closing, landing}
 
-module _ (g : List ℕ) (x : ℕ) (exits : List ℕ) (j : ℕ) (e : List ℕ) (b : Bool) (t : b ≡ (eqb (kind g j) 2 && eqb (xOf g j) x)) where
+module _ (g : List ℕ) (x : ℕ) (exits : List ℕ) (j : ℕ) (e : List ℕ) (b : Bool) (t : b ≡ (eqb (kind g j) 2 && eqb (x_of g j) x)) where
   pub no_unwrap : b ≡ false → e ≡ closing g x exits j e
   unfolding closing
   no_unwrap h = rw (← t, h)
 
-  module _ (q k : ℕ) (u : q ≡ place_in g (node g j) (yOf g j)) (i : k ≡ get_or exits q 0) (h : b ≡ true) where
+  module _ (q k : ℕ) (u : q ≡ place_in g (node g j) (y_of g j)) (i : k ≡ get_or exits q 0) (h : b ≡ true) where
     pub no_exit : far ≤ k → e ≡ closing g x exits j e
     unfolding closing
     no_exit f = rw (← t, h, ← u, ← i, le-leb far k f)

@@ -3,14 +3,14 @@ use Prim.Native.Nat.{ℕ, ◌+◌, ◌*◌}
 use mathlib.Core.Path.{◌≡◌}
 use mathlib.Core.Bool.{true, false}
 use mathlib.Core.List.{List}
-use Rattle.network.specs.Network.{links, to, yOf, place_in}
+use Rattle.network.specs.Network.{links, to, y_of, place_in}
 use Rattle.network.specs.Next.{leaves, suits}
 use Rattle.tables_costs.specs.Loop.{upto}
 use Rattle.tables_costs.specs.Costs.{lower_to}
 use Rattle.tables_sweeps.specs.Row.{step_cost, crossing, serving}
 
 module _ (g : List ℕ) (v j i : ℕ) (a : List ℕ) where
-  pub crossed : (a' : List ℕ) → leaves g v i ≡ true → a' ≡ lower_to (place_in g (to g i) (yOf g j)) (step_cost g j i) a → a' ≡ crossing g v j i a
+  pub crossed : (a' : List ℕ) → leaves g v i ≡ true → a' ≡ lower_to (place_in g (to g i) (y_of g j)) (step_cost g j i) a → a' ≡ crossing g v j i a
   unfolding crossing
   crossed a' e h = rw e h
 

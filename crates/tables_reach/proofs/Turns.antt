@@ -7,7 +7,7 @@ use native.Mathlib.Omega.{arith}
 use lib.Dec.{eqb, leb}
 use lib.ListN.{get_or, get_or-replicate}
 use Rattle.paper.proofs.Places.{place_lt}
-use Rattle.network.specs.Network.{links, funs, places, from, node, kind, xOf, yOf, fee, place_in}
+use Rattle.network.specs.Network.{links, funs, places, from, node, kind, x_of, y_of, fee, place_in}
 use Rattle.network.specs.Arranged.{Arranged}
 use Rattle.network.specs.Next.{suits, Next}
 use Rattle.tables_costs.specs.Costs.{far, lower_to, blank}
@@ -44,13 +44,13 @@ module _ (g W C : List ℕ) (v x : ℕ) where
       no_exits = upto_none _ (places g) (blank 1024) (λ q h. rw (far_blank 1024 q (omega (arith, known.valid.places))))
 
       no_ends : closings g x (blank 1024) (blank 256) ≡ blank 256
-      no_ends = upto_none _ (funs g) (blank 256) (λ j h. go j h (eqb (kind g j) 2 && eqb (xOf g j) x))
+      no_ends = upto_none _ (funs g) (blank 256) (λ j h. go j h (eqb (kind g j) 2 && eqb (x_of g j) x))
         where
           go : (j : ℕ) → j < funs g → (b : Bool)
-              → cond b (cond (leb far (get_or (blank 1024) (place_in g (node g j) (yOf g j)) 0)) (blank 256)
-              (lower_to (node g j) (get_or (blank 1024) (place_in g (node g j) (yOf g j)) 0 + (fee g j * 65536 + 1)) (blank 256))) (blank 256) ≡ blank 256
+              → cond b (cond (leb far (get_or (blank 1024) (place_in g (node g j) (y_of g j)) 0)) (blank 256)
+              (lower_to (node g j) (get_or (blank 1024) (place_in g (node g j) (y_of g j)) 0 + (fee g j * 65536 + 1)) (blank 256))) (blank 256) ≡ blank 256
           go j h false = refl
-          go j h true = rw (far_blank 1024 (place_in g (node g j) (yOf g j)) (omega (arith, place_lt _ _ (node g j) (yOf g j) (known.valid.fun_node j h) (known.valid.fun_y j h), known.valid.places)))
+          go j h true = rw (far_blank 1024 (place_in g (node g j) (y_of g j)) (omega (arith, place_lt _ _ (node g j) (y_of g j) (known.valid.fun_node j h) (known.valid.fun_y j h), known.valid.places)))
 
       no_landings : landings g x (blank 256) a ≡ a
       no_landings = upto_none _ (links g) a (λ i h. rw (far_blank 256 (from g i) (omega (arith, known.valid.link_from i h, known.valid.nodes))))

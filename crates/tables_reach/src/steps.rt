@@ -1,6 +1,6 @@
 // The steps of one kind from one place.
 ghost use Rattle.std.specs.Prelude.{◌≡◌, ◌+◌, ◌<◌, ◌≤◌, length};
-ghost use Rattle.network.specs.Network.{nodes, links, funs, places, to, toll, yOf, fee, place_in, Within};
+ghost use Rattle.network.specs.Network.{nodes, links, funs, places, to, toll, y_of, fee, place_in, Within};
 ghost use Rattle.network.specs.Arranged.{Arranged};
 ghost use Rattle.tables_costs.specs.Loop.{upto};
 ghost use Rattle.tables_costs.specs.Costs.{lower_to};
@@ -15,7 +15,7 @@ use tables_costs::cost::{lower_to, step_cost};
 // The number of the place that function j leads to over link i.
 fn lead(net: &[u32], j: usize, i: usize) -> usize
     requires { Arranged net.now × (j < funs net.now) × (i < links net.now) }
-    ensures { (result ≡ place_in net.now (to net.now i) (yOf net.now j)) × (result < places net.now) }
+    ensures { (result ≡ place_in net.now (to net.now i) (y_of net.now j)) × (result < places net.now) }
 {
     let there = Place {
         node: link_to(net, i),
@@ -35,7 +35,7 @@ fn weigh(net: &[u32], j: usize, i: usize) -> u32
 // The step of function j over link i.
 fn step(net: &[u32], j: usize, i: usize, a: &mut [u64])
     requires { Arranged net.now × (j < funs net.now) × (i < links net.now) × (places net.now ≤ length a.old) }
-    ensures { a.new ≡ lower_to (place_in net.now (to net.now i) (yOf net.now j)) (step_cost net.now j i) a.old }
+    ensures { a.new ≡ lower_to (place_in net.now (to net.now i) (y_of net.now j)) (step_cost net.now j i) a.old }
 {
     let there = lead(net, j, i);
     lower_to(a, there, step_cost(weigh(net, j, i), 1));

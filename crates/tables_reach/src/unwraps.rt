@@ -1,6 +1,6 @@
 // The ways out of tunnels: an unwrap of what hides a protocol, and the link after it.
 ghost use Rattle.std.specs.Prelude.{◌≡◌, ◌<◌, ◌≤◌, length};
-ghost use Rattle.network.specs.Network.{nodes, protocols, links, funs, places, to, node, yOf, place_in};
+ghost use Rattle.network.specs.Network.{nodes, protocols, links, funs, places, to, node, y_of, place_in};
 ghost use Rattle.network.specs.Arranged.{Arranged};
 ghost use Rattle.tables_sweeps.specs.Row.{closing, closings, landing, landings};
 
@@ -13,7 +13,7 @@ use tables_costs::cost::{FAR, cost_there, lower_to, step_cost};
 // The number of the place where function j unwraps.
 fn exit_of(net: &[u32], j: usize) -> usize
     requires { Arranged net.now × (j < funs net.now) }
-    ensures { (result ≡ place_in net.now (node net.now j) (yOf net.now j)) × (result < places net.now) }
+    ensures { (result ≡ place_in net.now (node net.now j) (y_of net.now j)) × (result < places net.now) }
 {
     let exit = Place {
         node: fun_node(net, j),

@@ -16,7 +16,7 @@ use Rattle.laws.specs.Value.{Value, cap, Le, plus}
 use Rattle.laws.proofs.Cap.{cap_plus, plus_comm}
 use Rattle.laws.proofs.Depth.{digits}
 use Rattle.network_records.specs.Columns.{kind_of_code}
-use Rattle.network.specs.Network.{nodes, protocols, links, funs, places, number, from, to, toll, node, kind, xOf, yOf, fee, hop_in, place_in}
+use Rattle.network.specs.Network.{nodes, protocols, links, funs, places, number, from, to, toll, node, kind, x_of, y_of, fee, hop_in, place_in}
 use Rattle.network.specs.Arranged.{Arranged}
 use Rattle.network.specs.Next.{leaves, suits}
 use Rattle.network.proofs.Steps.{step_at}
@@ -78,38 +78,38 @@ module _ (g : List ℕ) (known : Arranged g) where
     pub step_worth : worth (step_cost g j i) ≡ cap (fee g j + toll g i) 1
     step_worth = worth_one (fee g j + toll g i) 1 light (omega arith)
 
-    step_place : place_in g (to g i) (yOf g j) < places g
-    step_place = place_lt _ _ (to g i) (yOf g j) (known.valid.link_to i hi) (known.valid.fun_y j hj)
+    step_place : place_in g (to g i) (y_of g j) < places g
+    step_place = place_lt _ _ (to g i) (y_of g j) (known.valid.link_to i hi) (known.valid.fun_y j hj)
 
   module _ (v x : ℕ) where
-    conv_is : (j i : ℕ) → j < funs g → i < links g → suits g v 0 x j ≡ true → leaves g v i ≡ true → RowIs v x (place_in g (to g i) (yOf g j)) (worth (step_cost g j i))
+    conv_is : (j i : ℕ) → j < funs g → i < links g → suits g v 0 x j ≡ true → leaves g v i ≡ true → RowIs v x (place_in g (to g i) (y_of g j)) (worth (step_cost g j i))
     unfolding kind_of_code
     conv_is j i hj hi s l =
         let a = suits_true g v 0 x j s in
         let k = step_at g known j i v 0 x hj hi (leaves_true g v i l ∙ sym a.0) a.0 a.1 a.2 in
         record {
-          at = λ u y hu hy e. numbered (λ t z. levels.Reached h v x t z (worth (step_cost g j i))) (to g i) (yOf g j) u y (known.valid.fun_y j hj) hy e
-              (rw (step_worth j i hj hi) (levels.reached_conv h v x (number g i) (yOf g j) (to g i) (fee g j + toll g i) k));
+          at = λ u y hu hy e. numbered (λ t z. levels.Reached h v x t z (worth (step_cost g j i))) (to g i) (y_of g j) u y (known.valid.fun_y j hj) hy e
+              (rw (step_worth j i hj hi) (levels.reached_conv h v x (number g i) (y_of g j) (to g i) (fee g j + toll g i) k));
         }
 
-    wrap_is : (j i : ℕ) → j < funs g → i < links g → suits g v 1 x j ≡ true → leaves g v i ≡ true → ExitIs v x (place_in g (to g i) (yOf g j)) (worth (step_cost g j i))
+    wrap_is : (j i : ℕ) → j < funs g → i < links g → suits g v 1 x j ≡ true → leaves g v i ≡ true → ExitIs v x (place_in g (to g i) (y_of g j)) (worth (step_cost g j i))
     unfolding kind_of_code
     wrap_is j i hj hi s l =
         let a = suits_true g v 1 x j s in
         let k = step_at g known j i v 1 x hj hi (leaves_true g v i l ∙ sym a.0) a.0 a.1 a.2 in
         record {
-          at = λ u y hu hy e. numbered (λ t z. levels.Opened h v x t z (worth (step_cost g j i))) (to g i) (yOf g j) u y (known.valid.fun_y j hj) hy e
-              (rw (step_worth j i hj hi) (levels.opened_wrap h v x (number g i) (yOf g j) (to g i) (fee g j + toll g i) k));
+          at = λ u y hu hy e. numbered (λ t z. levels.Opened h v x t z (worth (step_cost g j i))) (to g i) (y_of g j) u y (known.valid.fun_y j hj) hy e
+              (rw (step_worth j i hj hi) (levels.opened_wrap h v x (number g i) (y_of g j) (to g i) (fee g j + toll g i) k));
         }
 
     -- the steps of kind k, whose worth is as A says
     module _ (m : ℕ) (some : 1 ≤ m) (A : ℕ → Value → Type 0) (k : ℕ)
-        (a : (j i : ℕ) → j < funs g → i < links g → suits g v k x j ≡ true → leaves g v i ≡ true → A (place_in g (to g i) (yOf g j)) (worth (step_cost g j i))) where
+        (a : (j i : ℕ) → j < funs g → i < links g → suits g v k x j ≡ true → leaves g v i ≡ true → A (place_in g (to g i) (y_of g j)) (worth (step_cost g j i))) where
       crossing_fall : (j : ℕ) → j < funs g → suits g v k x j ≡ true → (i : ℕ) → i < links g → (l : List ℕ) → Local (places g) m A l → Fall (places g) m A l (crossing g v j i l)
       unfolding crossing
       crossing_fall j hj s i hi l o = go (leaves g v i) refl
         where
-          go : (b : Bool) → leaves g v i ≡ b → Fall (places g) m A l (cond b (lower_to (place_in g (to g i) (yOf g j)) (step_cost g j i) l) l)
+          go : (b : Bool) → leaves g v i ≡ b → Fall (places g) m A l (cond b (lower_to (place_in g (to g i) (y_of g j)) (step_cost g j i) l) l)
           go true e = lower_fall (places g) m A _ _ (step_place j i hj hi) (sized_more 1 m _ some (step_sized j i hj hi)) (a j i hj hi s e) l o
           go false e = fall_none (places g) m A l o
 
@@ -126,7 +126,7 @@ module _ (g : List ℕ) (known : Arranged g) where
       steps_fall = upto_fall (places g) m A _ (funs g) serving_fall
 
       steps_low : (j i : ℕ) → j < funs g → i < links g → suits g v k x j ≡ true → leaves g v i ≡ true → (l : List ℕ) → Local (places g) m A l
-          → get_or (steps g v k x l) (place_in g (to g i) (yOf g j)) 0 ≤ step_cost g j i
+          → get_or (steps g v k x l) (place_in g (to g i) (y_of g j)) 0 ≤ step_cost g j i
       unfolding steps serving crossing
       steps_low j i hj hi s e =
           upto_low (places g) m A _ (funs g) serving_fall j _ _ hj (step_place j i hj hi)
@@ -138,13 +138,13 @@ module _ (g : List ℕ) (known : Arranged g) where
     -- the unwrap of function j after an exit's cost, and a link after that
     module _ (exits : List ℕ) (ex : Local (places g) 2 (ExitIs v x) exits) where
       abbrev exit : ℕ → ℕ
-      exit j = get_or exits (place_in g (node g j) (yOf g j)) 0
+      exit j = get_or exits (place_in g (node g j) (y_of g j)) 0
 
       abbrev end : ℕ → ℕ
       end j = exit j + (fee g j * 65536 + 1)
 
-      exit_place : (j : ℕ) → j < funs g → place_in g (node g j) (yOf g j) < places g
-      exit_place j hj = place_lt _ _ (node g j) (yOf g j) (known.valid.fun_node j hj) (known.valid.fun_y j hj)
+      exit_place : (j : ℕ) → j < funs g → place_in g (node g j) (y_of g j) < places g
+      exit_place j hj = place_lt _ _ (node g j) (y_of g j) (known.valid.fun_node j hj) (known.valid.fun_y j hj)
 
       fee_light : (j : ℕ) → j < funs g → fee g j ≤ 4294967296
       fee_light j hj = omega (arith, known.valid.fun_weight j hj)
@@ -161,7 +161,7 @@ module _ (g : List ℕ) (known : Arranged g) where
       one_step : (e : Value) (a b : ℕ) → plus (plus e (cap a 1)) (cap b 0) ≡ plus (cap (a + b) 1) e
       one_step e a b = plus_assoc e (cap a 1) (cap b 0) ∙ (rw (cap_plus a 1 b 0) (plus_comm e (cap (a + b) 1)))
 
-      end_is : (j : ℕ) → j < funs g → (eqb (kind g j) 2 && eqb (xOf g j) x) ≡ true
+      end_is : (j : ℕ) → j < funs g → (eqb (kind g j) 2 && eqb (x_of g j) x) ≡ true
           → EndIs v x (node g j) (worth (end j))
       unfolding kind_of_code
       end_is j hj t =
@@ -170,16 +170,16 @@ module _ (g : List ℕ) (known : Arranged g) where
           let hy = known.valid.fun_y j hj in
           record {
             at = λ i hi f. rw (end_worth j hj, one_step (worth (exit j)) (fee g j) (toll g i))
-                (levels.landed h v x (node g j) (yOf g j) (number g i) (to g i) (fee g j + toll g i) _
+                (levels.landed h v x (node g j) (y_of g j) (number g i) (to g i) (fee g j + toll g i) _
                 (step_at g known j i (node g j) 2 x hj hi f refl e.0 e.1)
-                ((ex.is _ (exit_place j hj)).at (node g j) (yOf g j) hn hy refl));
+                ((ex.is _ (exit_place j hj)).at (node g j) (y_of g j) hn hy refl));
           }
 
       closing_fall : (j : ℕ) → j < funs g → (l : List ℕ) → Local (nodes g) 3 (EndIs v x) l → Fall (nodes g) 3 (EndIs v x) l (closing g x exits j l)
       unfolding closing
-      closing_fall j hj l o = go (eqb (kind g j) 2 && eqb (xOf g j) x) refl (leb far (exit j))
+      closing_fall j hj l o = go (eqb (kind g j) 2 && eqb (x_of g j) x) refl (leb far (exit j))
         where
-          go : (b : Bool) → (eqb (kind g j) 2 && eqb (xOf g j) x) ≡ b → (c : Bool)
+          go : (b : Bool) → (eqb (kind g j) 2 && eqb (x_of g j) x) ≡ b → (c : Bool)
               → Fall (nodes g) 3 (EndIs v x) l (cond b (cond c l (lower_to (node g j) (end j) l)) l)
           go false e c = fall_none (nodes g) 3 (EndIs v x) l o
           go true e true = fall_none (nodes g) 3 (EndIs v x) l o
@@ -189,7 +189,7 @@ module _ (g : List ℕ) (known : Arranged g) where
       unfolding closings
       closings_fall = upto_fall (nodes g) 3 (EndIs v x) _ (funs g) closing_fall
 
-      closings_low : (j : ℕ) → j < funs g → kind g j ≡ 2 → xOf g j ≡ x → (l : List ℕ) → Local (nodes g) 3 (EndIs v x) l
+      closings_low : (j : ℕ) → j < funs g → kind g j ≡ 2 → x_of g j ≡ x → (l : List ℕ) → Local (nodes g) 3 (EndIs v x) l
           → get_or (closings g x exits l) (node g j) 0 ≤ end j
       unfolding closings closing
       closings_low j hj d e =
@@ -316,25 +316,25 @@ module _ (g : List ℕ) (known : Arranged g) where
     reach_local = (tunnels_fall (steps g v 0 x (blank 1024)) convs_fall.local).local
 
     -- no more than a conv: function j over link i
-    pub reach_conv : (j i : ℕ) → j < funs g → i < links g → node g j ≡ v → kind g j ≡ 0 → xOf g j ≡ x → from g i ≡ v
-        → Le (worth (get_or (reach g W C v x (blank 1024)) (place_in g (to g i) (yOf g j)) 0)) (cap (fee g j + toll g i) 1)
+    pub reach_conv : (j i : ℕ) → j < funs g → i < links g → node g j ≡ v → kind g j ≡ 0 → x_of g j ≡ x → from g i ≡ v
+        → Le (worth (get_or (reach g W C v x (blank 1024)) (place_in g (to g i) (y_of g j)) 0)) (cap (fee g j + toll g i) 1)
     unfolding reach
     reach_conv j i hj hi a b c f =
         let s = steps_low v x 4 (omega arith) (RowIs v x) 0 (conv_is v x) j i hj hi (suits_yes g v 0 x j a b c) (leaves_yes g v i f) (blank 1024) (no_row 4) in
-        let t = (tunnels_fall (steps g v 0 x (blank 1024)) convs_fall.local).below (place_in g (to g i) (yOf g j)) (step_place j i hj hi) in
-        let u : get_or (reach g W C v x (blank 1024)) (place_in g (to g i) (yOf g j)) 0 ≤ step_cost g j i = omega arith in
+        let t = (tunnels_fall (steps g v 0 x (blank 1024)) convs_fall.local).below (place_in g (to g i) (y_of g j)) (step_place j i hj hi) in
+        let u : get_or (reach g W C v x (blank 1024)) (place_in g (to g i) (y_of g j)) 0 ≤ step_cost g j i = omega arith in
         rw (step_worth j i hj hi) at (worth_le _ _ u)
 
     -- no more than a tunnel: a wrap (function j over link i), what is inside, an unwrap (function k over link m)
     module _ (j i k m : ℕ) (hj : j < funs g) (hi : i < links g) (hk : k < funs g) (hm : m < links g) where
       abbrev within_it : ℕ
-      within_it = place_in g (to g i) (yOf g j) * places g + place_in g (node g k) (yOf g k)
+      within_it = place_in g (to g i) (y_of g j) * places g + place_in g (node g k) (y_of g k)
 
       abbrev whole : ℕ
       whole = step_cost g j i + cost_at W C within_it + (fee g k * 65536 + 1) + (toll g m * 65536 + 0)
 
       within_lt : within_it < places g * places g
-      within_lt = omega (arith, begin_le (places g) (place_in g (to g i) (yOf g j)) (step_place j i hj hi), place_lt _ _ (node g k) (yOf g k) (known.valid.fun_node k hk) (known.valid.fun_y k hk))
+      within_lt = omega (arith, begin_le (places g) (place_in g (to g i) (y_of g j)) (step_place j i hj hi), place_lt _ _ (node g k) (y_of g k) (known.valid.fun_node k hk) (known.valid.fun_y k hk))
 
       whole_worth : worth whole ≡ plus (cap (fee g j + toll g i) 1) (plus (value_at W C within_it) (cap (fee g k + toll g m) 1))
       whole_worth =
@@ -356,13 +356,13 @@ module _ (g : List ℕ) (known : Arranged g) where
             cap_plus (fee g k) 1 (toll g m) 0,
           ) (plus_assoc (cap (fee g j + toll g i) 1) (value_at W C within_it) (cap (fee g k + toll g m) 1))
 
-      pub reach_tunnel : node g j ≡ v → kind g j ≡ 1 → xOf g j ≡ x → from g i ≡ v → kind g k ≡ 2 → xOf g k ≡ x → from g m ≡ node g k
+      pub reach_tunnel : node g j ≡ v → kind g j ≡ 1 → x_of g j ≡ x → from g i ≡ v → kind g k ≡ 2 → x_of g k ≡ x → from g m ≡ node g k
           → Le (worth (get_or (reach g W C v x (blank 1024)) (place_in g (to g m) x) 0)) (plus (cap (fee g j + toll g i) 1) (plus (value_at W C within_it) (cap (fee g k + toll g m) 1)))
       unfolding reach tunnels inside wraps
       reach_tunnel a b c f d e l =
-          let o = place_lt _ _ (node g k) (yOf g k) (known.valid.fun_node k hk) (known.valid.fun_y k hk) in
+          let o = place_lt _ _ (node g k) (y_of g k) (known.valid.fun_node k hk) (known.valid.fun_y k hk) in
           let s = steps_low v x 1 (le_refl 1) (ExitIs v x) 1 (wrap_is v x) j i hj hi (suits_yes g v 1 x j a b c) (leaves_yes g v i f) (blank 1024) (no_exit 1) in
-          let q = spread.onwards_low W C (places g) costs 1 (omega arith) (ExitIs v x) (ExitIs v x) after_exit wraps wraps_local (place_in g (to g i) (yOf g j)) (place_in g (node g k) (yOf g k)) (step_place j i hj hi) o (blank 1024) (no_exit 2) in
+          let q = spread.onwards_low W C (places g) costs 1 (omega arith) (ExitIs v x) (ExitIs v x) after_exit wraps wraps_local (place_in g (to g i) (y_of g j)) (place_in g (node g k) (y_of g k)) (step_place j i hj hi) o (blank 1024) (no_exit 2) in
           let r = closings_low v x (inside g W C v x (blank 1024)) inside_local k hk d e (blank 256) no_end in
           let t = landings_low v x hx (closings g x (inside g W C v x (blank 1024)) (blank 256)) ends_local m hm (steps g v 0 x (blank 1024)) convs_fall.local in
           let u : get_or (reach g W C v x (blank 1024)) (place_in g (to g m) x) 0 ≤ whole = omega (arith, rw l at t) in

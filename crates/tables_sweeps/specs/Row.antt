@@ -4,7 +4,7 @@
 use Rattle.std.specs.Prelude.{ℕ, ◌+◌, ◌*◌, Bool, cond, not, ◌&&◌, ◌||◌, List, eqb, leb, ltb, get_or}
 use Rattle.paper.specs.Limits.{never_mark}
 use Rattle.laws.specs.Value.{Value, heft, count}
-use Rattle.network.specs.Network.{links, funs, places, from, to, toll, node, kind, xOf, yOf, fee, place_in}
+use Rattle.network.specs.Network.{links, funs, places, from, to, toll, node, kind, x_of, y_of, fee, place_in}
 use Rattle.network.specs.Next.{leaves, suits}
 use Rattle.tables_costs.specs.Loop.{upto}
 use Rattle.tables_costs.specs.Costs.{far, worth, cost_at, lower_to, blank}
@@ -49,7 +49,7 @@ step_cost g j i = (fee g j + toll g i) * 65536 + 1
 
 -- function j over link i, where that leaves v
 unfoldable pub crossing : (g : List ℕ) (v j i : ℕ) → List ℕ → List ℕ
-crossing g v j i a = cond (leaves g v i) (lower_to (place_in g (to g i) (yOf g j)) (step_cost g j i) a) a
+crossing g v j i a = cond (leaves g v i) (lower_to (place_in g (to g i) (y_of g j)) (step_cost g j i) a) a
 
 -- function j over each link of v, where it is one of v, of kind k, for x
 unfoldable pub serving : (g : List ℕ) (v k x j : ℕ) → List ℕ → List ℕ
@@ -61,9 +61,9 @@ steps g v k x = upto (serving g v k x) (funs g)
 -- function j, where it unwraps what hides x, at an exit that something gets to; its link is yet to be crossed
 unfoldable pub closing : (g : List ℕ) (x : ℕ) (exits : List ℕ) (j : ℕ) → List ℕ → List ℕ
 closing g x exits j e =
-    cond (eqb (kind g j) 2 && eqb (xOf g j) x)
-    (cond (leb far (get_or exits (place_in g (node g j) (yOf g j)) 0)) e
-    (lower_to (node g j) (get_or exits (place_in g (node g j) (yOf g j)) 0 + (fee g j * 65536 + 1)) e)) e
+    cond (eqb (kind g j) 2 && eqb (x_of g j) x)
+    (cond (leb far (get_or exits (place_in g (node g j) (y_of g j)) 0)) e
+    (lower_to (node g j) (get_or exits (place_in g (node g j) (y_of g j)) 0 + (fee g j * 65536 + 1)) e)) e
 
 unfoldable pub closings : (g : List ℕ) (x : ℕ) (exits : List ℕ) → List ℕ → List ℕ
 closings g x exits = upto (closing g x exits) (funs g)

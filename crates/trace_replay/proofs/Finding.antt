@@ -13,7 +13,7 @@ use borrow.Author.Tests.{eqb-true, eq-eqb}
 use Rattle.paper.specs.Net.{code, key}
 use Rattle.laws.proofs.Before.{and_left, and_right}
 use Rattle.network_records.specs.Columns.{kind_of_code}
-use Rattle.network.specs.Network.{links, funs, number, from, to, toll, node, kind, xOf, yOf, fee, hop_in}
+use Rattle.network.specs.Network.{links, funs, number, from, to, toll, node, kind, x_of, y_of, fee, hop_in}
 use Rattle.network.specs.Arranged.{Arranged}
 use Rattle.network.specs.Next.{leaves, suits, Next}
 use Rattle.network.proofs.Steps.{Found, found, step_at, kind_is}
@@ -67,12 +67,12 @@ module _ (g : List ℕ) (o : Arranged g) (v : ℕ) (k : List ℕ) where
   leads i j a b hi hj =
       let l = a.holds hi in
       let f = b.holds hj in
-      let s = and_left (eqb (node g j) v && (eqb (kind g j) (code (kind_of_code (get_or k 1 0))) && eqb (xOf g j) (get_or k 2 0))) (eqb (yOf g j) (get_or k 3 0)) f in
-      let t = and_right (eqb (node g j) v) (eqb (kind g j) (code (kind_of_code (get_or k 1 0))) && eqb (xOf g j) (get_or k 2 0)) s in
-      let at_node : node g j ≡ v = eqb-true (node g j) v (and_left (eqb (node g j) v) (eqb (kind g j) (code (kind_of_code (get_or k 1 0))) && eqb (xOf g j) (get_or k 2 0)) s) in
-      let at_kind : kind g j ≡ code (kind_of_code (get_or k 1 0)) = eqb-true (kind g j) (code (kind_of_code (get_or k 1 0))) (and_left (eqb (kind g j) (code (kind_of_code (get_or k 1 0)))) (eqb (xOf g j) (get_or k 2 0)) t) in
-      let at_x : xOf g j ≡ get_or k 2 0 = eqb-true (xOf g j) (get_or k 2 0) (and_right (eqb (kind g j) (code (kind_of_code (get_or k 1 0)))) (eqb (xOf g j) (get_or k 2 0)) t) in
-      let at_y : yOf g j ≡ get_or k 3 0 = eqb-true (yOf g j) (get_or k 3 0) (and_right (eqb (node g j) v && (eqb (kind g j) (code (kind_of_code (get_or k 1 0))) && eqb (xOf g j) (get_or k 2 0))) (eqb (yOf g j) (get_or k 3 0)) f) in
+      let s = and_left (eqb (node g j) v && (eqb (kind g j) (code (kind_of_code (get_or k 1 0))) && eqb (x_of g j) (get_or k 2 0))) (eqb (y_of g j) (get_or k 3 0)) f in
+      let t = and_right (eqb (node g j) v) (eqb (kind g j) (code (kind_of_code (get_or k 1 0))) && eqb (x_of g j) (get_or k 2 0)) s in
+      let at_node : node g j ≡ v = eqb-true (node g j) v (and_left (eqb (node g j) v) (eqb (kind g j) (code (kind_of_code (get_or k 1 0))) && eqb (x_of g j) (get_or k 2 0)) s) in
+      let at_kind : kind g j ≡ code (kind_of_code (get_or k 1 0)) = eqb-true (kind g j) (code (kind_of_code (get_or k 1 0))) (and_left (eqb (kind g j) (code (kind_of_code (get_or k 1 0)))) (eqb (x_of g j) (get_or k 2 0)) t) in
+      let at_x : x_of g j ≡ get_or k 2 0 = eqb-true (x_of g j) (get_or k 2 0) (and_right (eqb (kind g j) (code (kind_of_code (get_or k 1 0)))) (eqb (x_of g j) (get_or k 2 0)) t) in
+      let at_y : y_of g j ≡ get_or k 3 0 = eqb-true (y_of g j) (get_or k 3 0) (and_right (eqb (node g j) v && (eqb (kind g j) (code (kind_of_code (get_or k 1 0))) && eqb (x_of g j) (get_or k 2 0))) (eqb (y_of g j) (get_or k 3 0)) f) in
       let at_from : from g i ≡ v = eqb-true (from g i) v (and_left (eqb (from g i) v) (eqb (number g i) (get_or k 0 0)) l) in
       let at_number : number g i ≡ get_or k 0 0 = eqb-true (number g i) (get_or k 0 0) (and_right (eqb (from g i) v) (eqb (number g i) (get_or k 0 0)) l) in
       rw (← at_number, ← at_y, ← kind_back (kind_of_code (get_or k 1 0))) (step_at g o j i v (code (kind_of_code (get_or k 1 0))) (get_or k 2 0) hj hi (at_from ∙ sym at_node) at_node at_kind at_x)
@@ -96,5 +96,5 @@ module _ (g : List ℕ) (o : Arranged g) (v : ℕ) (k : List ℕ) where
   no_fun j b l =
       nothing (λ u w f.
       not_both (known g v (code (kind_of_code (get_or k 1 0))) (get_or k 2 0) (get_or k 3 0) f.j)
-      (rw (eq-eqb (node g f.j) v f.at_node, eq-eqb (kind g f.j) (code (kind_of_code (get_or k 1 0))) (kind_is g o (kind_of_code (get_or k 1 0)) f.j f.of_fun f.has_kind), eq-eqb (xOf g f.j) (get_or k 2 0) f.has_x, eq-eqb (yOf g f.j) (get_or k 3 0) f.has_y))
+      (rw (eq-eqb (node g f.j) v f.at_node, eq-eqb (kind g f.j) (code (kind_of_code (get_or k 1 0))) (kind_is g o (kind_of_code (get_or k 1 0)) f.j f.of_fun f.has_kind), eq-eqb (x_of g f.j) (get_or k 2 0) f.has_x, eq-eqb (y_of g f.j) (get_or k 3 0) f.has_y))
       (b.none_before f.j (omega arith) (omega (arith, f.of_fun))))

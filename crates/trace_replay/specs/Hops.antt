@@ -1,7 +1,7 @@
 -- The link and the function that a step key names, and where the step leads as an option. Assumes nothing: these are definitions.
 use Rattle.std.specs.Prelude.{ℕ, Bool, ◌&&◌, List, eqb}
 use Rattle.std.proofs.Math.Option.{Option, none, some}
-use Rattle.network.specs.Network.{number, yOf}
+use Rattle.network.specs.Network.{number, y_of}
 use Rattle.network.specs.Next.{leaves, suits}
 use Rattle.trace_replay.specs.declared.hops.Led.{Led}
 use Rattle.trace_replay.specs.declared.hops.Led.TheVariants.{Nowhere, To}
@@ -12,7 +12,7 @@ numbered g v l i = leaves g v i && eqb (number g i) l
 
 -- function j is that of node v, kind k, x and y
 abbrev pub known : (g : List ℕ) (v k x y j : ℕ) → Bool
-known g v k x y j = suits g v k x j && eqb (yOf g j) y
+known g v k x y j = suits g v k x j && eqb (y_of g j) y
 
 abbrev pub hopped : Led → Option (ℕ × ℕ)
 hopped Nowhere = none

@@ -11,7 +11,7 @@ use lib.ListN.{length, get_or, set, replicate, length-set, length-replicate, get
 use lib.Seq.{get_or-set_same, get_or-set_other}
 use borrow.Author.Tests.{eq-eqb, ne_eqb, eqb-true}
 use Rattle.paper.proofs.Places.{place_lt}
-use Rattle.network.specs.Network.{nodes, protocols, links, funs, places, from, to, toll, node, kind, xOf, yOf, fee, place_in}
+use Rattle.network.specs.Network.{nodes, protocols, links, funs, places, from, to, toll, node, kind, x_of, y_of, fee, place_in}
 use Rattle.network.specs.Arranged.{Arranged}
 use Rattle.tables_costs.specs.Costs.{far, lower_to}
 use Rattle.unfold_exits.specs.Cost.{cost, least}
@@ -63,7 +63,7 @@ module _ {g : List ℕ} {x : ℕ} {land : ℕ → ℕ} {O : List ℕ} {j m : ℕ
   pub fun_kind_not : (a : ℕ) → a ≡ kind g j → (a ≡ 2 → ⊥) → Gathered (Unwrapping g x land) (j + 1) O m
   fun_kind_not a e h = none_by (λ f k s. h (e ∙ s.unwraps))
 
-  pub fun_x_not : (a : ℕ) → a ≡ xOf g j → (a ≡ x → ⊥) → Gathered (Unwrapping g x land) (j + 1) O m
+  pub fun_x_not : (a : ℕ) → a ≡ x_of g j → (a ≡ x → ⊥) → Gathered (Unwrapping g x land) (j + 1) O m
   fun_x_not a e h = none_by (λ f k s. h (e ∙ s.hides))
 
   module _ (u w a l : ℕ) (eu : u ≡ node g j) (ew : w ≡ fee g j) (ea : a ≡ cost w 0) (el : l ≡ land u) where
@@ -73,10 +73,10 @@ module _ {g : List ℕ} {x : ℕ} {land : ℕ → ℕ} {O : List ℕ} {j m : ℕ
     pub fun_far : far ≤ a + l → Gathered (Unwrapping g x land) (j + 1) O m
     fun_far h = none_by (λ e k s. omega (arith, costs e k s, s.near))
 
-    pub fun_listed : {O' : List ℕ} (b z y q r : ℕ) → 2 * m + 1 < length O → a + l < far → b ≡ kind g j → b ≡ 2 → z ≡ xOf g j → z ≡ x → y ≡ yOf g j → q ≡ place_in g u y
+    pub fun_listed : {O' : List ℕ} (b z y q r : ℕ) → 2 * m + 1 < length O → a + l < far → b ≡ kind g j → b ≡ 2 → z ≡ x_of g j → z ≡ x → y ≡ y_of g j → q ≡ place_in g u y
         → r ≡ m + 1 → O' ≡ with_exit O m q (a + l) → Gathered (Unwrapping g x land) (j + 1) O' r
     fun_listed b z y q r room near eb hb ez hz ey eq er eO =
-        let same : q ≡ place_in g (node g j) (yOf g j) = rw (eu, ey) at eq in
+        let same : q ≡ place_in g (node g j) (y_of g j) = rw (eu, ey) at eq in
         rw (er, eO)
         (gathered_one _ before room (record { unwraps = sym eb ∙ hb; hides = sym ez ∙ hz; place_is = same; cost_is = rw (← eu, ← ew, ← ea, ← el); near = near })
         (λ e k s. (s.place_is ∙ sym same, omega (arith, costs e k s))))
@@ -99,7 +99,7 @@ module _ {g W C E : List ℕ} {len x : ℕ} {G O : List ℕ} {m : ℕ} (o : Arra
       fits = omega (arith, all.few, o.valid.few_funs);
       place_below = λ i h.
           let s = all.lists.each i h in
-          rw s.is.place_is (place_lt (nodes g) (protocols g) (node g s.at) (yOf g s.at) (o.valid.fun_node s.at s.below) (o.valid.fun_y s.at s.below));
+          rw s.is.place_is (place_lt (nodes g) (protocols g) (node g s.at) (y_of g s.at) (o.valid.fun_node s.at s.below) (o.valid.fun_y s.at s.below));
       cost_below = λ i h. omega (arith, (all.lists.each i h).is.near);
     },
     record {

@@ -1,7 +1,7 @@
 -- The exits of a level that is open, and those of a tunnel that may be opened from it. Assumes nothing: these are definitions.
 -- W and C are the weight and count rooms, L the choice room, g the network.
 use Rattle.std.specs.Prelude.{ℕ, ◌+◌, ◌*◌, ◌<◌, ◌≤◌, ◌≡◌, cond, List, T, eqb, length, get_or}
-use Rattle.network.specs.Network.{nodes, protocols, links, places, from, to, toll, node, kind, xOf, yOf, fee, place_in}
+use Rattle.network.specs.Network.{nodes, protocols, links, places, from, to, toll, node, kind, x_of, y_of, fee, place_in}
 use Rattle.network.specs.Arranged.{Arranged}
 use Rattle.unfold_frames.specs.Frames.{words_for, mark}
 use Rattle.tables_costs.specs.Costs.{far}
@@ -61,8 +61,8 @@ module _ (g W C E : List ℕ) (len x : ℕ) where
 -- function j unwraps what hides x at the place e, and k is the cost from there on, where `land` tells what it costs from a node
 pub record Unwrapping (g : List ℕ) (x : ℕ) (land : ℕ → ℕ) (j e k : ℕ) : Type 0 where
   pub unwraps : kind g j ≡ 2
-  pub hides : xOf g j ≡ x
-  pub place_is : e ≡ place_in g (node g j) (yOf g j)
+  pub hides : x_of g j ≡ x
+  pub place_is : e ≡ place_in g (node g j) (y_of g j)
   pub cost_is : k ≡ cost (fee g j) 0 + land (node g j)
   pub near : k < far
 

@@ -5,7 +5,7 @@ use mathlib.Core.Bool.{true, false}
 use mathlib.Core.List.{List, []}
 use native.Mathlib.Omega.{arith}
 use borrow.Author.Tests.{eq-eqb}
-use Rattle.network.specs.Network.{places, funs, node, kind, xOf}
+use Rattle.network.specs.Network.{places, funs, node, kind, x_of}
 use Rattle.network.specs.Next.{suits, Next}
 use Rattle.unfold_exits.specs.Lists.{Lists, Ranged}
 use Rattle.unfold_exits.specs.Exits.{Leaves, Reading, Crossing}
@@ -37,7 +37,7 @@ no_wraps g at r next e = record { O = []; len = 0; outward = λ j h s. absurd (n
   where
     none : (j : ℕ) → j < funs g → Serves g at.node 1 at.protocol 0 j → ⊥
     none j h y =
-        let yes : suits g at.node 1 at.protocol j ≡ true = rw (eq-eqb (node g j) at.node y.at_node, eq-eqb (kind g j) 1 y.of_kind, eq-eqb (xOf g j) at.protocol y.on_top) in
+        let yes : suits g at.node 1 at.protocol j ≡ true = rw (eq-eqb (node g j) at.node y.at_node, eq-eqb (kind g j) 1 y.of_kind, eq-eqb (x_of g j) at.protocol y.on_top) in
         let not : suits g at.node 1 at.protocol j ≡ false = next.none_before j (omega arith) (omega (arith, e)) in
         let z : ◌≡◌ {A = ℕ} 0 1 = cc (yes, not) in
         omega arith

@@ -17,7 +17,7 @@ use Rattle.laws.proofs.Fixpoint.{Valid}
 use Rattle.laws.proofs.Tight.{ok_rest, goes_exit, table_level}
 use Rattle.laws.proofs.Nest.{marks, inmost, nest_begun, begun_wrap}
 use Rattle.network_records.specs.Columns.{kind_of_code}
-use Rattle.network.specs.Network.{nodes, protocols, funs, number, to, toll, node, yOf, fee, hop_in}
+use Rattle.network.specs.Network.{nodes, protocols, funs, number, to, toll, node, y_of, fee, hop_in}
 use Rattle.network.specs.Arranged.{Arranged}
 use Rattle.network.proofs.Steps.{step_at, found, kind_is, steps_inside}
 use Rattle.unfold_frames.specs.Frames.{words_for, held_at}
@@ -73,7 +73,7 @@ module _ (g : List ℕ) (arranged : Arranged g) (W C : List ℕ) where
       abbrev On : (j e k : ℕ) → Type 0
       On = Unwraps g W C E len x
 
-      pub unwraps_outs : {j e k : ℕ} → j < funs g → On j e k → Outs f x (node g j) (yOf g j) k
+      pub unwraps_outs : {j e k : ℕ} → j < funs g → On j e k → Outs f x (node g j) (y_of g j) k
       unfolding kind_of_code
       unwraps_outs {j} {e} {k} hj s =
           let land = lands_met g W C E len x (node g j) (omega (arith, s.cost_is, s.near)) in
@@ -173,11 +173,11 @@ module _ (g : List ℕ) (arranged : Arranged g) (W C : List ℕ) where
         some_outs : {e k : ℕ} → Q e k → Outs f x (e / p) (e % p) k
         some_outs {e} {k} s =
             let hy = arranged.valid.fun_y s.at s.below in
-            let parts = place_parts p (node g s.at) (yOf g s.at) hy in
+            let parts = place_parts p (node g s.at) (y_of g s.at) hy in
             rw (s.is.place_is, parts.0, parts.1) (unwraps_outs x ms hf s.below s.is)
 
         some_below : {e k : ℕ} → Q e k → e < n * p
-        some_below s = rw s.is.place_is (place_lt n p (node g s.at) (yOf g s.at) (arranged.valid.fun_node s.at s.below) (arranged.valid.fun_y s.at s.below))
+        some_below s = rw s.is.place_is (place_lt n p (node g s.at) (y_of g s.at) (arranged.valid.fun_node s.at s.below) (arranged.valid.fun_y s.at s.below))
 
         sum_is : (e k s : ℕ) → told_at W C (place p r z * (n * p) + e) + k ≡ s → told_at W C (at n p W C r z (e / p) (e % p)) + k ≡ s
         sum_is e k s q = rw (div-add-mod' e p) q

@@ -13,7 +13,7 @@ use Rattle.laws.specs.Unfold.{Exact, Ok, Opened, Passes, conv_passes, wrap_passe
 use Rattle.laws.proofs.Fixpoint as fixpoint
 use Rattle.laws.proofs.Nest.{way_conv, nest_begun, nest_way, nest_unwrap}
 use Rattle.network_records.specs.Columns.{kind_of_code}
-use Rattle.network.specs.Network.{nodes, protocols, funs, number, to, toll, xOf, yOf, fee, hop_in}
+use Rattle.network.specs.Network.{nodes, protocols, funs, number, to, toll, x_of, y_of, fee, hop_in}
 use Rattle.network.specs.Arranged.{Arranged}
 use Rattle.network.proofs.Steps.{step_at, Found, found, kind_is, steps_inside}
 use Rattle.unfold_frames.specs.Frames.{words_for, held_at}
@@ -121,13 +121,13 @@ module _ (g W C : List ℕ) (D b : ℕ) (arranged : Arranged g) (exact : Exact (
           let h = step_at g arranged e.j e.i v 0 x e.of_fun e.of_link (e.leaves ∙ sym y.at_node) y.at_node y.of_kind y.on_top in
           let next = nest_way hop n p t D b nest (way_conv hop n p t (number g e.i) (fee g e.j + toll g e.i) h e.weighs e.counts) in
           record {
-            k = key (number g e.i) conv x (yOf g e.j);
+            k = key (number g e.i) conv x (y_of g e.j);
             r = to g e.i;
-            z = yOf g e.j;
+            z = y_of g e.j;
             u = e.u;
             q = e.q;
             passes = conv_passes (number g e.i) (fee g e.j + toll g e.i) h e.weighs e.counts ((test next).0 e.finishes);
-            is = e.is ∙ ap (λ (a : ℕ). step_to (key (number g e.i) conv a (yOf g e.j)) (to g e.i) (yOf g e.j) e.u e.q) y.on_top;
+            is = e.is ∙ ap (λ (a : ℕ). step_to (key (number g e.i) conv a (y_of g e.j)) (to g e.i) (y_of g e.j) e.u e.q) y.on_top;
           }
 
       pub conv_tried : {r z u q : ℕ} (lk cw : ℕ) → hop (key lk conv x z) v ≡ some (r, cw) → w ≡ cw + u → m ≡ suc q → Ok hop n p t f r z u q → Tries E len 0 0 (step_to (key lk conv x z) r z u q)
@@ -144,18 +144,18 @@ module _ (g W C : List ℕ) (D b : ℕ) (arranged : Arranged g) (exact : Exact (
       unwrap_way some_left a =
           let e = any_tried g W C E len at 2 f'.hidden some_left (few_left nest) a in
           let y = e.serving in
-          let hid : f'.hidden ≡ xOf g e.j = sym (y.beneath refl) in
-          let h = step_at g arranged e.j e.i v 2 (xOf g e.j) e.of_fun e.of_link (e.leaves ∙ sym y.at_node) y.at_node y.of_kind refl in
-          let h' : hop (key (number g e.i) unwrap (xOf g e.j) x) v ≡ some (to g e.i, fee g e.j + toll g e.i) = ap (λ (a : ℕ). hop (key (number g e.i) unwrap (xOf g e.j) a) v) (sym y.on_top) ∙ h in
+          let hid : f'.hidden ≡ x_of g e.j = sym (y.beneath refl) in
+          let h = step_at g arranged e.j e.i v 2 (x_of g e.j) e.of_fun e.of_link (e.leaves ∙ sym y.at_node) y.at_node y.of_kind refl in
+          let h' : hop (key (number g e.i) unwrap (x_of g e.j) x) v ≡ some (to g e.i, fee g e.j + toll g e.i) = ap (λ (a : ℕ). hop (key (number g e.i) unwrap (x_of g e.j) a) v) (sym y.on_top) ∙ h in
           let next = nest_unwrap hop n p t D b (number g e.i) (fee g e.j + toll g e.i) nest hid h' e.weighs e.counts in
           record {
-            k = key (number g e.i) unwrap (xOf g e.j) x;
+            k = key (number g e.i) unwrap (x_of g e.j) x;
             r = to g e.i;
-            z = xOf g e.j;
+            z = x_of g e.j;
             u = e.u;
             q = e.q;
             passes = unwrap_passes (number g e.i) (fee g e.j + toll g e.i) hid h' e.weighs e.counts ((test next).0 e.finishes);
-            is = e.is ∙ ap (λ (a : ℕ). step_to (key (number g e.i) unwrap (xOf g e.j) a) (to g e.i) (xOf g e.j) e.u e.q) y.on_top;
+            is = e.is ∙ ap (λ (a : ℕ). step_to (key (number g e.i) unwrap (x_of g e.j) a) (to g e.i) (x_of g e.j) e.u e.q) y.on_top;
           }
 
       pub unwrap_tried : {r z u q : ℕ} (lk cw : ℕ) → f'.hidden ≡ z → hop (key lk unwrap z x) v ≡ some (r, cw) → w ≡ cw + u → m ≡ suc q → Ok hop n p t f r z u q
@@ -175,15 +175,15 @@ module _ (g W C : List ℕ) (D b : ℕ) (arranged : Arranged g) (exact : Exact (
         let y = e.serving in
         let l = outward e.j e.of_fun y in
         let h = step_at g arranged e.j e.i v 1 x e.of_fun e.of_link (e.leaves ∙ sym y.at_node) y.at_node y.of_kind y.on_top in
-        let opened = (tunnel_test g arranged W C D b exact L o l.lists (to g e.i) (yOf g e.j) e.u e.q (number g e.i) (fee g e.j + toll g e.i) nest h e.weighs e.counts l.gathered).0 e.finishes in
+        let opened = (tunnel_test g arranged W C D b exact L o l.lists (to g e.i) (y_of g e.j) e.u e.q (number g e.i) (fee g e.j + toll g e.i) nest h e.weighs e.counts l.gathered).0 e.finishes in
         record {
-          k = key (number g e.i) wrap x (yOf g e.j);
+          k = key (number g e.i) wrap x (y_of g e.j);
           r = to g e.i;
-          z = yOf g e.j;
+          z = y_of g e.j;
           u = e.u;
           q = e.q;
           passes = wrap_passes (number g e.i) (fee g e.j + toll g e.i) h e.weighs e.counts opened;
-          is = e.is ∙ ap (λ (a : ℕ). step_to (key (number g e.i) wrap a (yOf g e.j)) (to g e.i) (yOf g e.j) e.u e.q) y.on_top;
+          is = e.is ∙ ap (λ (a : ℕ). step_to (key (number g e.i) wrap a (y_of g e.j)) (to g e.i) (y_of g e.j) e.u e.q) y.on_top;
         }
 
     pub wrap_tried : {r z u q : ℕ} (lk cw : ℕ) → hop (key lk wrap x z) v ≡ some (r, cw) → w ≡ cw + u → m ≡ suc q → Opened hop n p t f x r z u q → Tries O len 1 0 (step_to (key lk wrap x z) r z u q)

@@ -3,7 +3,7 @@ use Prim.Native.Nat.{ℕ, suc, ◌+◌, ◌-◌, ◌*◌, ◌<◌, ◌≤◌}
 use mathlib.Core.Path.{◌≡◌}
 use mathlib.Core.List.{List, [], ◌∷◌}
 use native.Mathlib.Omega.{arith}
-use Rattle.network.specs.Network.{links, funs, places, number, from, to, toll, xOf, yOf, fee, place_in}
+use Rattle.network.specs.Network.{links, funs, places, number, from, to, toll, x_of, y_of, fee, place_in}
 use Rattle.unfold_exits.specs.Cost.{cost}
 use Rattle.unfold_exits.specs.Lists.{finishing}
 use Rattle.unfold_tries.specs.declared.trial.Spot.{Spot}
@@ -24,7 +24,7 @@ module _ (g W C E : List ℕ) (len : ℕ) (at : Spot) (k h : ℕ) where
     pub weighs : at.weight ≡ fee g j + toll g i + u
     pub counts : at.left ≡ suc q
     pub finishes : finishing W C E len (place_in g (to g i) (next_of g k j) * places g) ≡ cost u q
-    pub is : s ≡ record { key = number g i ∷ k ∷ xOf g j ∷ yOf g j ∷ []; to = record { node = to g i; protocol = next_of g k j; weight = u; left = q } }
+    pub is : s ≡ record { key = number g i ∷ k ∷ x_of g j ∷ y_of g j ∷ []; to = record { node = to g i; protocol = next_of g k j; weight = u; left = q } }
 
   pub any_tried : {s : Step} → 0 < at.left → at.left ≤ 4096 → Any (ByFun g W C E len at k h) (funs g) s → Tried s
   unfolding way_over

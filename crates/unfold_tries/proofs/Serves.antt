@@ -8,7 +8,7 @@ use native.Mathlib.Omega.{arith}
 use lib.Dec.{eqb}
 use borrow.Author.Tests.{eqb-true, eqb-false, eq-eqb, ne_eqb, not-true, not-false}
 use Rattle.laws.proofs.Before.{and_left, and_right}
-use Rattle.network.specs.Network.{protocols, links, funs, node, kind, xOf, yOf}
+use Rattle.network.specs.Network.{protocols, links, funs, node, kind, x_of, y_of}
 use Rattle.network.specs.Arranged.{Arranged}
 use Rattle.network.specs.Next.{suits}
 use Rattle.unfold_tries.specs.declared.trial.Spot.{Spot}
@@ -18,19 +18,19 @@ use Rattle.unfold_tries.specs.Trial.{Better, Any, OverLink, ByFun, Serves, Usabl
 use Rattle.unfold_tries.proofs.Better.{better_none}
 
 module _ (g : List ℕ) (k j : ℕ) where
-  pub unwrap_next : k ≡ 2 → xOf g j ≡ next_of g k j
+  pub unwrap_next : k ≡ 2 → x_of g j ≡ next_of g k j
   unfolding next_of
   unwrap_next e = rw e
 
-  pub other_next : (k ≡ 2 → ⊥) → yOf g j ≡ next_of g k j
+  pub other_next : (k ≡ 2 → ⊥) → y_of g j ≡ next_of g k j
   unfolding next_of
   other_next e = rw (ne_eqb k 2 e)
 
-  next_lt : (p : ℕ) → xOf g j < p → yOf g j < p → next_of g k j < p
+  next_lt : (p : ℕ) → x_of g j < p → y_of g j < p → next_of g k j < p
   unfolding next_of
   next_lt p hx hy = go (eqb k 2)
     where
-      go : (b : Bool) → cond b (xOf g j) (yOf g j) < p
+      go : (b : Bool) → cond b (x_of g j) (y_of g j) < p
       go true = hx
       go false = hy
 
@@ -42,17 +42,17 @@ module _ (g : List ℕ) (k j : ℕ) where
   module _ (v x h : ℕ) where
     pub serves_suits : Serves g v k x h j → suits g v k (sought_by k x h) j ≡ true
     unfolding suits sought_by top_of
-    serves_suits s = rw (eq-eqb (node g j) v s.at_node, eq-eqb (kind g j) k s.of_kind) (eq-eqb (xOf g j) (cond (eqb k 2) h x) (go (eqb k 2) refl s.on_top))
+    serves_suits s = rw (eq-eqb (node g j) v s.at_node, eq-eqb (kind g j) k s.of_kind) (eq-eqb (x_of g j) (cond (eqb k 2) h x) (go (eqb k 2) refl s.on_top))
       where
-        go : (b : Bool) → eqb k 2 ≡ b → cond b (yOf g j) (xOf g j) ≡ x → xOf g j ≡ cond b h x
+        go : (b : Bool) → eqb k 2 ≡ b → cond b (y_of g j) (x_of g j) ≡ x → x_of g j ≡ cond b h x
         go true e t = s.beneath (eqb-true k 2 e)
         go false e t = t
 
-    suits_serves : suits g v k (sought_by k x h) j ≡ true → (k ≡ 2 → yOf g j ≡ x) → Serves g v k x h j
+    suits_serves : suits g v k (sought_by k x h) j ≡ true → (k ≡ 2 → y_of g j ≡ x) → Serves g v k x h j
     unfolding suits sought_by top_of
     suits_serves t y =
         let t₁ = and_right (eqb (node g j) v) _ t in
-        let is = eqb-true (xOf g j) (cond (eqb k 2) h x) (and_right (eqb (kind g j) k) _ t₁) in
+        let is = eqb-true (x_of g j) (cond (eqb k 2) h x) (and_right (eqb (kind g j) k) _ t₁) in
         record {
           at_node = eqb-true (node g j) v (and_left (eqb (node g j) v) _ t);
           of_kind = eqb-true (kind g j) k (and_left (eqb (kind g j) k) _ t₁);
@@ -60,7 +60,7 @@ module _ (g : List ℕ) (k j : ℕ) where
           beneath = λ e. is ∙ rw e;
         }
       where
-        go : (b : Bool) → eqb k 2 ≡ b → xOf g j ≡ cond b h x → cond b (yOf g j) (xOf g j) ≡ x
+        go : (b : Bool) → eqb k 2 ≡ b → x_of g j ≡ cond b h x → cond b (y_of g j) (x_of g j) ≡ x
         go true e i = y (eqb-true k 2 e)
         go false e i = i
 
@@ -69,7 +69,7 @@ module _ (g W C E : List ℕ) (len : ℕ) (at : Spot) (k h j : ℕ) where
   fun_elsewhere s e b = let z : ◌≡◌ {A = ℕ} 0 1 = cc (e, serves_suits g k j at.node at.protocol h b.serving) in omega arith
 
   -- an unwrap that is for another protocol on top, and what is tried
-  module _ (y : ℕ) (ey : y ≡ yOf g j) where
+  module _ (y : ℕ) (ey : y ≡ y_of g j) where
     pub fun_passed : {b : Step} → (eqb k 2 && not (eqb y at.protocol)) ≡ true → Better (ByFun g W C E len at k h j) b b
     unfolding top_of
     fun_passed t =
@@ -87,5 +87,5 @@ module _ (g W C E : List ℕ) (len : ℕ) (at : Spot) (k h j : ℕ) where
           beats = λ s i. q'.beats s i.over;
         }
       where
-        on_top : k ≡ 2 → yOf g j ≡ at.protocol
+        on_top : k ≡ 2 → y_of g j ≡ at.protocol
         on_top i = sym ey ∙ eqb-true y at.protocol (not-false _ (rw i at t))

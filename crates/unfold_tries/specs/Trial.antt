@@ -2,7 +2,7 @@
 -- g is the network, W and C the weight and count rooms, E the room of the exits, of which there are len. Assumes nothing: these are definitions.
 use Rattle.std.specs.Prelude.{ℕ, ◌+◌, ◌-◌, ◌*◌, ◌<◌, ◌≤◌, ◌≡◌, cond, List, [], ◌∷◌, ◌⊎◌, eqb}
 use Rattle.paper.specs.Route.{Lex}
-use Rattle.network.specs.Network.{nodes, protocols, links, places, number, from, to, toll, node, kind, xOf, yOf, fee, place_in}
+use Rattle.network.specs.Network.{nodes, protocols, links, places, number, from, to, toll, node, kind, x_of, y_of, fee, place_in}
 use Rattle.network.specs.Arranged.{Arranged}
 use Rattle.unfold_exits.specs.Cost.{cost, Square}
 use Rattle.unfold_exits.specs.Lists.{Ranged, finishing}
@@ -58,10 +58,10 @@ pub record Trying (g W C E : List ℕ) (len : ℕ) (at : Spot) : Type 0 where
 
 -- the protocol that function j of kind k asks for on top, and the one that it leaves there: an unwrap asks for y, and leaves x
 unfoldable pub top_of : (g : List ℕ) (k j : ℕ) → ℕ
-top_of g k j = cond (eqb k 2) (yOf g j) (xOf g j)
+top_of g k j = cond (eqb k 2) (y_of g j) (x_of g j)
 
 unfoldable pub next_of : (g : List ℕ) (k j : ℕ) → ℕ
-next_of g k j = cond (eqb k 2) (xOf g j) (yOf g j)
+next_of g k j = cond (eqb k 2) (x_of g j) (y_of g j)
 
 -- the x of the functions of kind k that are for the protocol x on top: an unwrap's is the one hidden just beneath
 unfoldable pub sought_by : (k x h : ℕ) → ℕ
@@ -72,11 +72,11 @@ pub record Serves (g : List ℕ) (v k x h j : ℕ) : Type 0 where
   pub at_node : node g j ≡ v
   pub of_kind : kind g j ≡ k
   pub on_top : top_of g k j ≡ x
-  pub beneath : k ≡ 2 → xOf g j ≡ h
+  pub beneath : k ≡ 2 → x_of g j ≡ h
 
 -- function j, of kind k, as it is used
 abbrev pub use_of : (g : List ℕ) (k j : ℕ) → Use
-use_of g k j = record { kind = k; x = xOf g j; y = yOf g j; weight = fee g j; onto = next_of g k j }
+use_of g k j = record { kind = k; x = x_of g j; y = y_of g j; weight = fee g j; onto = next_of g k j }
 
 -- a step of function j that passes
 pub record ByFun (g W C E : List ℕ) (len : ℕ) (at : Spot) (k h j : ℕ) (s : Step) : Type 0 where
