@@ -6,6 +6,9 @@ ghost use Rattle.network_records.specs.Columns.{link_width, fun_width, number, f
 
 use paper::limits::MOST_RECORDS;
 
+pub mod kind;
+pub mod record;
+
 pub const LINK_WIDTH: usize = 4;
 
 pub const FUN_WIDTH: usize = 5;

@@ -3,6 +3,7 @@ pub mod Net
 pub mod Route
 pub mod Text
 pub mod File
+pub mod Faults
 pub mod Normal
 pub mod Trace
 pub mod Rooms
