@@ -5,12 +5,6 @@ ghost use Rattle.std.specs.Prelude.{◌≡◌, [], ◌∷◌, ◌+◌, ◌*◌, 
 ghost use Rattle.paper.specs.Rooms.{laid};
 ghost use Rattle.unfold_frames.specs.Frames.{words_for, bit, blank, with_mark};
 
-fn wide(x: u16) -> u32
-    ensures { (result ≡ x) × (result < 65536) }
-{
-    x as u32
-}
-
 // The words that hold a bit for each of `size` places.
 pub fn words_for(size: usize) -> usize
     requires { size ≤ 1024 }
@@ -24,7 +18,7 @@ pub fn entry(choice: &[u16], i: usize) -> u32
     requires { i < length choice.now }
     ensures { (result ≡ get_or choice.now i 0) × (result < 65536) }
 {
-    wide(choice[i])
+    u32::from(choice[i])
 }
 
 // The weight left of the record that begins at entry o.
@@ -48,22 +42,16 @@ pub fn clear(choice: &mut [u16], o: usize, m: usize)
     requires { o + m ≤ length choice.old }
     ensures { choice.new ≡ laid choice.old o (replicate m 0) }
 {
-    let mut i = 0;
-    while i < m {
-        choice[o + i] = 0;
-        i += 1;
-    }
+    choice[o..o + m].fill(0);
 }
 
 fn head(choice: &mut [u16], o: usize, place: u16, hidden: u16, weight: u32, steps: u16)
     requires { o + 5 ≤ length choice.old }
     ensures { choice.new ≡ laid choice.old o (place ∷ hidden ∷ weight % 65536 ∷ weight / 65536 ∷ steps ∷ []) }
 {
-    choice[o] = place;
-    choice[o + 1] = hidden;
-    choice[o + 2] = (weight % 65536) as u16;
-    choice[o + 3] = (weight / 65536) as u16;
-    choice[o + 4] = steps;
+    let low = (weight % 65536) as u16;
+    let high = (weight / 65536) as u16;
+    choice[o..o + 5].copy_from_slice(&[place, hidden, low, high, steps]);
 }
 
 // A record with no place marked, from entry o on.

@@ -1,21 +1,14 @@
-use mathlib.Core.Path.{refl, sym}
-use lib.ListN.{length-set}
+use mathlib.Core.Path.{◌≡◌, ap, ◌∙◌}
+use lib.ListN.{replicate, length-replicate}
 use native.Mathlib.Omega.{arith}
-use Rattle.laws.proofs.Laid.{laid_none}
-use Rattle.unfold_frames.proofs.Stores.{zero_more, zeros_all}
+use Prim.Native.Nat.{ℕ, ◌+◌, ◌-◌}
+use borrow.Rule.Slice.PartMut.{mid_len}
+use Rattle.unfold_frames.proofs.Stores.{part_laid}
 use Rattle.unfold_frames.proofs.clear.Goals as goal
-
-pub loop-i-init : goal.loop-i-init
-loop-i-init c = (omega arith, sym (laid_none _ _), refl)
-
-pub loop-i-preserved : goal.loop-i-preserved
-loop-i-preserved c =
-    let l = c.loop-i in
-    let a = c.args in
-    (omega arith, zero_more a.choice.now l.choice a.o l.i l.invariant.1, simp length-set l.invariant.2)
 
 pub returns : goal.returns
 returns c =
-    let l = c.loop-i in
     let a = c.args in
-    zeros_all a.choice.now l.choice a.o l.i a.m l.invariant.0 (omega arith) l.invariant.1
+    let m : a.o + a.m - a.o ≡ a.m = omega arith in
+    let zeros = c.fill.ensures.after (λ y h. h) ∙ ap (λ (k : ℕ). replicate {A = ℕ} k 0) (mid_len a.o (a.o + a.m) a.choice.now c.requires ∙ m) in
+    rw zeros (part_laid a.choice.now (replicate a.m 0) a.o (a.o + a.m) (omega arith) c.requires (omega (arith, length-replicate {A = ℕ} a.m 0)))
