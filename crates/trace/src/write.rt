@@ -65,13 +65,11 @@ fn put_lines(
 {
     let mut s = first;
     let mut t = begun;
-    let mut i: usize = 0;
-    while i < steps {
+    for i in 0..steps {
         let kind = kind_at(step, i);
         let y = outer_at(step, i);
         step_in(&mut s, kind, y);
         t = put_line(net, step, i, &s.cells, out, t);
-        i += 1;
     }
     t.next
 }

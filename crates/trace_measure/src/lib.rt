@@ -42,9 +42,9 @@ fn dots_after(key: [u16; 4], dots: usize) -> usize
     ensures { result + lost (key_of key) ≡ dots + gained (key_of key) }
 {
     let kind = key[1];
-    let y = width(key[3] as u32);
+    let y = width(u32::from(key[3]));
     if kind == 0 {
-        return dots + y - width(key[2] as u32);
+        return dots + y - width(u32::from(key[2]));
     }
     if kind == 1 {
         return dots + 1 + y;
@@ -56,8 +56,8 @@ fn line_size(key: [u16; 4], node: usize, dots: usize) -> usize
     requires { (node < 256) × (dots ≤ most_dots) }
     ensures { (result ≡ line_size (key_of key) node dots) × (result ≤ most_line) }
 {
-    let a = width(key[0] as u32) + word_size(key[1]);
-    let b = width(key[2] as u32) + width(key[3] as u32);
+    let a = width(u32::from(key[0])) + word_size(key[1]);
+    let b = width(u32::from(key[2])) + width(u32::from(key[3]));
     11 + a + b + width(node as u32) + dots
 }
 
@@ -82,10 +82,8 @@ fn steps_size(net: &[u32], start: Place, step: &[u16], steps: usize) -> usize
         dots: width(start.protocol as u32),
         size: 0,
     };
-    let mut i: usize = 0;
-    while i < steps {
+    for i in 0..steps {
         t = counted(net, key_at(step, i), t);
-        i += 1;
     }
     t.size
 }

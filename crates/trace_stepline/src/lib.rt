@@ -12,12 +12,6 @@ ghost use Rattle.trace_stepline.specs.Texts.{cell_text, key_text, end_text, Show
 use digits::write::{put_byte, put_field, put_kind, put_number, put_word};
 use trace_replay::packet::Packet;
 
-fn wide(x: u8) -> u32
-    ensures { result ≡ x }
-{
-    x as u32
-}
-
 // The protocol n of cell h: all but the lowest have a dot before them.
 fn put_cell(out: &mut [u8], at: usize, h: usize, n: u32) -> usize
     requires { at + length (cell_text h n) ≤ length out.old }
@@ -36,10 +30,8 @@ fn put_cells(out: &mut [u8], at: usize, cells: &[u8], height: usize) -> usize
     ensures { Put out.old out.new at result (dotted (below cells.now height)) }
 {
     let mut i = at;
-    let mut h: usize = 0;
-    while h < height {
-        i = put_cell(out, i, h, wide(cells[h]));
-        h += 1;
+    for h in 0..height {
+        i = put_cell(out, i, h, u32::from(cells[h]));
     }
     i
 }

@@ -1,12 +1,8 @@
 -- The loop keeps: the text of the lowest h cells is written. Assumes nothing.
-use Prim.Native.Nat.{◌-◌, ◌≤◌}
 use Rattle.paper.specs.Trace.{dotted}
 use Rattle.digits.specs.Write.{Put}
 use Rattle.trace_stack.specs.Items.{below}
 use Rattle.trace_stepline.proofs.put_cells.Given as goal
 
 abbrev pub invariant-loop-h : goal.invariant-loop-h
-invariant-loop-h l = (l.h ≤ l.height) × Put l.initial.out l.out l.at l.i (dotted (below l.cells l.h))
-
-abbrev pub decreases-loop-h : goal.decreases-loop-h
-decreases-loop-h l = l.height - l.h
+invariant-loop-h l = Put l.initial.out l.out l.at l.i (dotted (below l.cells l.h))
