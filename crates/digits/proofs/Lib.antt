@@ -3,4 +3,3 @@ pub mod Parts
 pub mod Reading
 pub mod Digits
 pub mod Writing
-pub mod Words

@@ -1,15 +1,18 @@
 -- One writer after another, and a text written piece by piece. Assumes nothing.
 use mathlib.Core.Path.{◌≡◌, refl, sym, ap, ◌∙◌}
-use mathlib.Core.List.{List, [], ◌∷◌, ◌++◌, map}
+use mathlib.Core.List.{List, [], ◌∷◌, ◌++◌, map, append_assoc}
 use Prim.Native.Nat.{ℕ, suc, ◌+◌, ◌-◌, ◌<◌, ◌≤◌}
 use native.Mathlib.Numerals.{add-one}
 use native.Mathlib.Nat.{add-zero}
 use native.Mathlib.Omega.{arith}
-use lib.ListN.{length, get_or, set, drop, length-append}
-use lib.Seq.{drop-cons, drop-length}
+use lib.ListN.{length, get_or, set, take, drop, length-append}
+use lib.Seq.{sets-eq, drop-drop, drop-cons, drop-length}
+use borrow.Rule.Slice.PartMut.{put_mid}
+use Rattle.paper.specs.Rooms.{laid}
 use Rattle.paper.specs.Text.{decimal, tabbed}
 use Rattle.laws.proofs.Laid.{laid_none, laid_one, laid_then, laid_seq, length_laid}
-use Rattle.digits.specs.Write.{Put, Left, digit_byte, last_digits}
+use Rattle.digits.specs.declared.write.Writer.{Writer}
+use Rattle.digits.specs.Write.{Put, Left, Holds, Wrote, Leaves, digit_byte, last_digits}
 use Rattle.digits.proofs.Digits.{digits_first, decimal_digits}
 
 pub then : {d e f : List ℕ} {i j k : ℕ} {s t : List ℕ} → Put d e i j s → Put e f j k t → Put d f i k (s ++ t)
@@ -39,31 +42,48 @@ left_room u t h l = omega (arith, l.ends, l.size, length-append u t)
 pub none_left : {d e : List ℕ} {i j : ℕ} {s : List ℕ} → Left d i s e j [] → Put d e i j s
 none_left {e} {j} l = record { next = omega (arith, l.ends); text = sym (laid_none e j) ∙ l.same }
 
+-- ## The same of a writer
+
+-- a text after another
+pub wrote_then : {w v x : Writer} {s t : List ℕ} → Wrote w v s → Wrote v x t → Wrote w x (s ++ t)
+wrote_then p q = record { room = q.room ∙ p.room; size = q.size ∙ p.size; put = then p.put q.put }
+
+pub leaves_all : (w : Writer) (s : List ℕ) → Leaves w w s s
+leaves_all w s = record { room = refl; left = whole_left w.out.now w.at s }
+
+pub leaves_less : {w v x : Writer} {s u t : List ℕ} → Leaves w v s (u ++ t) → Wrote v x u → Leaves w x s t
+leaves_less l p = record { room = p.room ∙ l.room; left = less_left l.left p.put }
+
+-- there is room for the next piece u
+pub leaves_room : {w v : Writer} {s : List ℕ} (u t : List ℕ) → Holds w s → Leaves w v s (u ++ t) → Holds v u
+leaves_room u t h l = left_room u t h l.left
+
+pub leaves_none : {w v : Writer} {s : List ℕ} → Leaves w v s [] → Wrote w v s
+leaves_none l = record { room = l.room; size = l.left.size; put = none_left l.left }
+
 -- ## A byte and a word
 
 pub byte_put : (d : List ℕ) (i v : ℕ) → Put d (set d i v) i (i + 1) (v ∷ [])
 byte_put d i v = record { next = refl; text = sym (laid_one d i v) }
 
--- the word from its byte k on is left, and that byte is written
-pub byte_left : {d e f : List ℕ} {i j j' : ℕ} {s : List ℕ} (w : List ℕ) (k : ℕ) → k < length w → Left d i s e j (drop k w) → Put e f j j' (get_or w k 0 ∷ [])
-    → Left d i s f j' (drop (k + 1) w)
-byte_left w k h l p = rw (add-one k) (less_left (rw (drop-cons w k 0 h) at l) p)
-
-pub word_put : {d e : List ℕ} {i j : ℕ} {s : List ℕ} (w : List ℕ) (k : ℕ) → k ≡ length w → Left d i s e j (drop k w) → Put d e i j s
-word_put w k h l = none_left (rw (h, drop-length w) at l)
+pub word_put : (d : List ℕ) (i : ℕ) (w v : List ℕ) → i + length w ≤ length d → v ≡ w → Put d (put_mid i (i + length w - i) d v) i (i + length w) w
+unfolding laid
+word_put d i w v h e =
+    let k : i + length w - i ≡ length w = omega arith in
+    record { next = refl; text = rw (e, k, sets-eq w d i h, drop-drop) (sym (append_assoc (take i d) w (drop (i + length w) d))) }
 
 -- ## A number: its last k digits are left
 
-pub number_left : (d : List ℕ) (i n k : ℕ) → k ≡ length (decimal n) → Left d i (decimal n) d i (last_digits k n)
-number_left d i n k e = rw (e, ← decimal_digits n) (whole_left d i (decimal n))
+pub number_leaves : (w : Writer) (n k : ℕ) → k ≡ length (decimal n) → Leaves w w (decimal n) (last_digits k n)
+number_leaves w n k e = rw (e, ← decimal_digits n) (leaves_all w (decimal n))
 
-pub digit_left : {d e f : List ℕ} {i j j' : ℕ} {s : List ℕ} (n k b : ℕ) → 0 < k → Left d i s e j (last_digits k n) → b ≡ digit_byte n (k - 1) → Put e f j j' (b ∷ [])
-    → Left d i s f j' (last_digits (k - 1) n)
-digit_left n k b h l q p = less_left (rw (digits_first k n h) at l) (rw q at p)
+pub digit_leaves : {w v x : Writer} {s : List ℕ} (n k b : ℕ) → 0 < k → Leaves w v s (last_digits k n) → b ≡ digit_byte n (k - 1) → Wrote v x (b ∷ [])
+    → Leaves w x s (last_digits (k - 1) n)
+digit_leaves n k b h l q p = leaves_less (rw (digits_first k n h) at l) (rw q at p)
 
-pub number_put : {d e : List ℕ} {i j : ℕ} {s : List ℕ} (n k : ℕ) → k ≡ 0 → Left d i s e j (last_digits k n) → Put d e i j s
+pub number_wrote : {w v : Writer} {s : List ℕ} (n k : ℕ) → k ≡ 0 → Leaves w v s (last_digits k n) → Wrote w v s
 unfolding last_digits
-number_put n k h l = none_left (rw h at l)
+number_wrote n k h l = leaves_none (rw h at l)
 
 -- ## Fields: the numbers from the one at k on are left
 
@@ -72,14 +92,14 @@ fields_first : (ns : List ℕ) (k : ℕ) → k < length ns
 unfolding tabbed
 fields_first ns k h = rw (drop-cons ns k 0 h)
 
-pub field_room : {d e : List ℕ} {i j : ℕ} {s : List ℕ} (ns : List ℕ) (k : ℕ) → k < length ns → i + length s ≤ length d → Left d i s e j (tabbed (map decimal (drop k ns)))
-    → j + length (9 ∷ decimal (get_or ns k 0)) ≤ length e
-field_room ns k h g l = left_room (9 ∷ decimal (get_or ns k 0)) (tabbed (map decimal (drop (suc k) ns))) g (rw (fields_first ns k h) at l)
+pub field_room : {w v : Writer} {s : List ℕ} (ns : List ℕ) (k : ℕ) → k < length ns → Holds w s → Leaves w v s (tabbed (map decimal (drop k ns)))
+    → Holds v (9 ∷ decimal (get_or ns k 0))
+field_room ns k h g l = leaves_room (9 ∷ decimal (get_or ns k 0)) (tabbed (map decimal (drop (suc k) ns))) g (rw (fields_first ns k h) at l)
 
-pub field_left : {d e f : List ℕ} {i j j' : ℕ} {s : List ℕ} (ns : List ℕ) (k : ℕ) → k < length ns → Left d i s e j (tabbed (map decimal (drop k ns)))
-    → Put e f j j' (9 ∷ decimal (get_or ns k 0)) → Left d i s f j' (tabbed (map decimal (drop (k + 1) ns)))
-field_left ns k h l p = rw (add-one k) (less_left (rw (fields_first ns k h) at l) p)
+pub field_leaves : {w v x : Writer} {s : List ℕ} (ns : List ℕ) (k : ℕ) → k < length ns → Leaves w v s (tabbed (map decimal (drop k ns)))
+    → Wrote v x (9 ∷ decimal (get_or ns k 0)) → Leaves w x s (tabbed (map decimal (drop (k + 1) ns)))
+field_leaves ns k h l p = rw (add-one k) (leaves_less (rw (fields_first ns k h) at l) p)
 
-pub fields_put : {d e : List ℕ} {i j : ℕ} {s : List ℕ} (ns : List ℕ) (k : ℕ) → k ≡ length ns → Left d i s e j (tabbed (map decimal (drop k ns))) → Put d e i j s
+pub fields_wrote : {w v : Writer} {s : List ℕ} (ns : List ℕ) (k : ℕ) → k ≡ length ns → Leaves w v s (tabbed (map decimal (drop k ns))) → Wrote w v s
 unfolding tabbed
-fields_put ns k h l = none_left (rw (h, drop-length ns) at l)
+fields_wrote ns k h l = leaves_none (rw (h, drop-length ns) at l)

@@ -1,46 +1,24 @@
-// Bytes, words, numbers and fields, written straight into a room from `at` on; each writer answers where the next byte goes.
-ghost use Rattle.std.specs.Prelude.{◌≡◌, [], ◌∷◌, map, ◌+◌, ◌≤◌, ◌<◌, length};
+// Bytes, words, numbers and fields, written straight into a room, one after another.
+ghost use Rattle.std.specs.Prelude.{◌≡◌, [], ◌∷◌, map, ◌≤◌, ◌<◌, length};
 ghost use Rattle.paper.specs.Text.{decimal, tabbed};
 ghost use Rattle.paper.specs.Normal.{kind_word};
-ghost use Rattle.network_records.specs.Columns.{kind_of_code};
-ghost use Rattle.digits.specs.Write.{Put, digit_byte};
+ghost use Rattle.network_records.specs.Kinds.{named};
+ghost use Rattle.digits.specs.Write.{Wrote, Holds, digit_byte};
 
 use crate::tens::ten;
-
-pub fn put_byte(out: &mut [u8], at: usize, b: u8) -> usize
-    requires { at < length out.old }
-    ensures { Put out.old out.new at result (b ∷ []) }
-{
-    out[at] = b;
-    at + 1
-}
-
-pub fn put_word(out: &mut [u8], at: usize, word: &[u8]) -> usize
-    requires { at + length word.now ≤ length out.old }
-    ensures { Put out.old out.new at result word.now }
-{
-    let mut i = at;
-    let mut k: usize = 0;
-    while k < word.len() {
-        i = put_byte(out, i, word[k]);
-        k += 1;
-    }
-    i
-}
+use network_records::kind::Kind;
 
 // The count of n's digits.
 pub fn width(n: u32) -> usize
     ensures value { result ≡ length (decimal n) }
     ensures lower_bound { (1 ≤ result) × (result ≤ 10) }
 {
-    let mut w: usize = 1;
-    while w < 10 {
+    for w in 1..10 {
         if n < ten(w) {
             return w;
         }
-        w += 1;
     }
-    w
+    10
 }
 
 // The digit of n at the power 10 ^ k, as a byte.
@@ -51,62 +29,93 @@ fn digit(n: u32, k: usize) -> u8
     (48 + n / ten(k) % 10) as u8
 }
 
-// The highest digit first.
-pub fn put_number(out: &mut [u8], at: usize, n: u32) -> usize
-    requires { at + length (decimal n) ≤ length out.old }
-    ensures { Put out.old out.new at result (decimal n) }
-{
-    let mut i = at;
-    let mut k = width(n);
-    while 0 < k {
-        k -= 1;
-        i = put_byte(out, i, digit(n, k));
-    }
-    i
+// A room that is written from its front on: the next byte goes to entry `at`.
+#[derive(Drop)]
+pub struct Writer<'a> {
+    out: &'a mut [u8],
+    at: usize,
 }
 
-// A tab and a number.
-pub fn put_field(out: &mut [u8], at: usize, n: u32) -> usize
-    requires { at + length (9 ∷ decimal n) ≤ length out.old }
-    ensures { Put out.old out.new at result (9 ∷ decimal n) }
-{
-    let i = put_byte(out, at, 9);
-    put_number(out, i, n)
-}
-
-// A tab and a word.
-pub fn put_word_field(out: &mut [u8], at: usize, word: &[u8]) -> usize
-    requires { at + length (9 ∷ word.now) ≤ length out.old }
-    ensures { Put out.old out.new at result (9 ∷ word.now) }
-{
-    let i = put_byte(out, at, 9);
-    put_word(out, i, word)
-}
-
-// The numbers, each with a tab before it.
-pub fn put_fields(out: &mut [u8], at: usize, numbers: &[u32]) -> usize
-    requires { at + length (tabbed (map decimal numbers.now)) ≤ length out.old }
-    ensures { Put out.old out.new at result (tabbed (map decimal numbers.now)) }
-{
-    let mut i = at;
-    let mut k: usize = 0;
-    while k < numbers.len() {
-        i = put_field(out, i, numbers[k]);
-        k += 1;
+impl<'a> Writer<'a> {
+    pub fn new(out: &'a mut [u8]) -> Writer<'a>
+        ensures room { result.out.ghost_name ≡ out.entry.ghost_name }
+        ensures empty { (result.out.now ≡ out.old) × (result.at ≡ 0) }
+    {
+        Writer { out, at: 0 }
     }
-    i
-}
 
-// A tab and the word of the kind whose code is k.
-pub fn put_kind(out: &mut [u8], at: usize, k: u32) -> usize
-    requires { at + length (9 ∷ kind_word (kind_of_code k)) ≤ length out.old }
-    ensures { Put out.old out.new at result (9 ∷ kind_word (kind_of_code k)) }
-{
-    if k == 0 {
-        return put_word_field(out, at, b"conv");
+    // How many bytes are written.
+    pub fn written(&self) -> usize
+        ensures { result ≡ self.now.at }
+    {
+        self.at
     }
-    if k == 1 {
-        return put_word_field(out, at, b"wrap");
+
+    pub fn byte(&mut self, b: u8)
+        requires { Holds self.old (b ∷ []) }
+        ensures { Wrote self.old self.new (b ∷ []) }
+    {
+        self.out[self.at] = b;
+        self.at += 1;
     }
-    put_word_field(out, at, b"unwrap")
+
+    pub fn word(&mut self, word: &[u8])
+        requires { Holds self.old word.now }
+        ensures { Wrote self.old self.new word.now }
+    {
+        let end = self.at + word.len();
+        self.out[self.at..end].copy_from_slice(word);
+        self.at = end;
+    }
+
+    // The highest digit first.
+    pub fn number(&mut self, n: u32)
+        requires { Holds self.old (decimal n) }
+        ensures { Wrote self.old self.new (decimal n) }
+    {
+        for k in (0..width(n)).rev() {
+            self.byte(digit(n, k));
+        }
+    }
+
+    // A tab and a number.
+    pub fn field(&mut self, n: u32)
+        requires { Holds self.old (9 ∷ decimal n) }
+        ensures { Wrote self.old self.new (9 ∷ decimal n) }
+    {
+        self.byte(b'\t');
+        self.number(n);
+    }
+
+    // A tab and a word.
+    pub fn word_field(&mut self, word: &[u8])
+        requires { Holds self.old (9 ∷ word.now) }
+        ensures { Wrote self.old self.new (9 ∷ word.now) }
+    {
+        self.byte(b'\t');
+        self.word(word);
+    }
+
+    // The numbers, each with a tab before it.
+    pub fn fields(&mut self, numbers: &[u32])
+        requires { Holds self.old (tabbed (map decimal numbers.now)) }
+        ensures { Wrote self.old self.new (tabbed (map decimal numbers.now)) }
+    {
+        for n in numbers {
+            self.field(*n);
+        }
+    }
+
+    // A tab and the kind's word.
+    #[tactic(auto, unfolding(paper::specs::Normal::kind_word, paper::specs::Text::conv_word, paper::specs::Text::wrap_word, paper::specs::Text::unwrap_word))]
+    pub fn kind(&mut self, kind: Kind)
+        requires { Holds self.old (9 ∷ kind_word (named kind)) }
+        ensures { Wrote self.old self.new (9 ∷ kind_word (named kind)) }
+    {
+        match kind {
+            Kind::Conv => self.word_field(b"conv"),
+            Kind::Wrap => self.word_field(b"wrap"),
+            Kind::Unwrap => self.word_field(b"unwrap"),
+        }
+    }
 }

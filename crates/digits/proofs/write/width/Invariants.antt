@@ -3,7 +3,4 @@ use Prim.Native.Nat.{◌≤◌, ◌<◌, ◌-◌, ◌^◌}
 use Rattle.digits.proofs.write.width.Given as goal
 
 abbrev pub invariant-loop-w : goal.invariant-loop-w
-invariant-loop-w l = (1 ≤ l.w) × (l.w ≤ 10) × (1 < l.w → 10 ^ (l.w - 1) ≤ l.n)
-
-abbrev pub decreases-loop-w : goal.decreases-loop-w
-decreases-loop-w l = 10 - l.w
+invariant-loop-w l = 1 < l.w → 10 ^ (l.w - 1) ≤ l.n
