@@ -8,9 +8,9 @@ use lib.Seq.{take_all}
 use Rattle.network.specs.Network.{links, funs, links_room, funs_room}
 use Rattle.network.specs.Arranged.{Arranged}
 
--- the part from entry n on, to the end
-pub part_on : (n : ℕ) (l : List ℕ) → take (length l - n) (drop n l) ≡ drop n l
-part_on n l = take_all (length l - n) (drop n l) (omega (arith, length-drop n l))
+-- the part from entry n on, to the end, of a room that is g
+pub part_on : (n : ℕ) (l g : List ℕ) → l ≡ g → take (length l - n) (drop n l) ≡ drop n g
+part_on n l g e = rw (← e) (take_all (length l - n) (drop n l) (omega (arith, length-drop n l)))
 
 module _ (g l : List ℕ) (i : ℕ) (o : Arranged g) where
   pub link_in : i < links g → l ≡ links_room g → i * 4 + 4 ≤ length l

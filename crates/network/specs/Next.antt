@@ -10,6 +10,18 @@ leaves g v i = eqb (from g i) v
 unfoldable pub suits : (g : List ℕ) (v k x j : ℕ) → Bool
 suits g v k x j = eqb (node g j) v && (eqb (kind g j) k && eqb (x_of g j) x)
 
+-- function j is one of node v
+unfoldable pub stands : (g : List ℕ) (v j : ℕ) → Bool
+stands g v j = eqb (node g j) v
+
+-- of n records those of which the test holds stand together, from a up to b
+pub record Stretch (test : ℕ → Bool) (n a b : ℕ) : Type 0 where
+  pub order : a ≤ b
+  pub within : b ≤ n
+  pub inside : (k : ℕ) → a ≤ k → k < b → test k ≡ true
+  pub before : (k : ℕ) → k < a → test k ≡ false
+  pub behind : (k : ℕ) → b ≤ k → k < n → test k ≡ false
+
 -- r is the first of the numbers from i on of which the test holds, or their end n
 pub record Next (test : ℕ → Bool) (n i r : ℕ) : Type 0 where
   pub from_here : i ≤ r

@@ -1,56 +1,54 @@
 // How large the network is, and the number of a place in it.
 ghost use Rattle.std.specs.Prelude.{◌≡◌, ◌*◌, ◌<◌, ◌≤◌};
-ghost use Rattle.network.specs.Network.{nodes, protocols, links, funs, places, number_of, Within};
 ghost use Rattle.network.specs.Arranged.{Arranged};
+ghost use Rattle.network.specs.Network.{nodes, protocols, links, funs, places, number_of, Within};
 
+use crate::Network;
 use crate::record::FUNS;
-use network_records::{FUN_ROOM, index};
+use network_records::FUN_ROOM;
 use paper::place::Place;
 
 // The length of the room.
 pub const ROOM: usize = FUNS + FUN_ROOM;
 
-pub fn nodes(net: &[u32]) -> usize
-    requires { Arranged net.now }
-    ensures { (result ≡ nodes net.now) × (1 ≤ result) × (result ≤ 256) }
-{
-    index(net[0])
-}
+impl<'a> Network<'a> {
+    pub fn nodes(&self) -> usize
+        ensures { (result ≡ nodes self.now) × (1 ≤ result) × (result ≤ 256) × Arranged self.now }
+    {
+        self.room[0] as usize
+    }
 
-pub fn protocols(net: &[u32]) -> usize
-    requires { Arranged net.now }
-    ensures { (result ≡ protocols net.now) × (1 ≤ result) × (result ≤ 16) }
-{
-    index(net[1])
-}
+    pub fn protocols(&self) -> usize
+        ensures { (result ≡ protocols self.now) × (1 ≤ result) × (result ≤ 16) × Arranged self.now }
+    {
+        self.room[1] as usize
+    }
 
-// How many links there are.
-pub fn links(net: &[u32]) -> usize
-    requires { Arranged net.now }
-    ensures { (result ≡ links net.now) × (result ≤ 1024) }
-{
-    index(net[2])
-}
+    // How many links there are.
+    pub fn links(&self) -> usize
+        ensures { (result ≡ links self.now) × (result ≤ 1024) × Arranged self.now }
+    {
+        self.room[2] as usize
+    }
 
-// How many functions there are.
-pub fn funs(net: &[u32]) -> usize
-    requires { Arranged net.now }
-    ensures { (result ≡ funs net.now) × (result ≤ 1024) }
-{
-    index(net[3])
-}
+    // How many functions there are.
+    pub fn funs(&self) -> usize
+        ensures { (result ≡ funs self.now) × (result ≤ 1024) × Arranged self.now }
+    {
+        self.room[3] as usize
+    }
 
-// N: how many places there are.
-pub fn places(net: &[u32]) -> usize
-    requires { Arranged net.now }
-    ensures { (result ≡ places net.now) × (1 ≤ result) × (result ≤ 1024) }
-{
-    nodes(net) * protocols(net)
-}
+    // N: how many places there are.
+    pub fn places(&self) -> usize
+        ensures { (result ≡ places self.now) × (1 ≤ result) × (result ≤ 1024) × Arranged self.now }
+    {
+        self.nodes() * self.protocols()
+    }
 
-pub fn number_of(net: &[u32], at: Place) -> usize
-    requires { Arranged net.now × Within net.now at }
-    ensures { (result ≡ number_of net.now at) × (result < places net.now) }
-{
-    at.number(nodes(net), protocols(net))
+    pub fn number_of(&self, at: Place) -> usize
+        requires { Within self.now at }
+        ensures { (result ≡ number_of self.now at) × (result < places self.now) }
+    {
+        at.number(self.nodes(), self.protocols())
+    }
 }

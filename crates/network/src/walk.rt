@@ -1,71 +1,65 @@
 // The records of a node, one after another: only they are looked at, and they are those that a scan of all records finds.
-ghost use Rattle.std.specs.Prelude.{◌≡◌, ◌&&◌, ◌+◌, ◌<◌, ◌≤◌, max, eqb};
-ghost use Rattle.network.specs.Network.{nodes, links, funs, link_start, fun_start, kind, x_of};
+ghost use Rattle.std.specs.Prelude.{◌≡◌, ◌&&◌, suc, ◌+◌, ◌<◌, ◌≤◌, eqb, get_or};
 ghost use Rattle.network.specs.Arranged.{Arranged};
-ghost use Rattle.network.specs.Next.{leaves, suits, Next};
+ghost use Rattle.network.specs.Network.{nodes, links, funs, fun_starts, kind, x_of};
+ghost use Rattle.network.specs.Next.{leaves, stands, suits, Next, Stretch};
 
-use crate::record::{fun_kind, fun_x};
-use crate::size::{funs, links};
-use network_records::index;
+use crate::Network;
 use paper::place::Place;
+use std::ops::Range;
 
 // Where the starts of the nodes' links begin in the room, and where those of their functions do.
 pub const LINK_STARTS: usize = 4;
 
 pub const FUN_STARTS: usize = LINK_STARTS + Place::NODES + 1;
 
-fn link_start(net: &[u32], v: usize) -> usize
-    requires { Arranged net.now × (v ≤ nodes net.now) }
-    ensures { result ≡ link_start net.now v }
-{
-    index(net[LINK_STARTS + v])
-}
-
-fn fun_start(net: &[u32], v: usize) -> usize
-    requires { Arranged net.now × (v ≤ nodes net.now) }
-    ensures { result ≡ fun_start net.now v }
-{
-    index(net[FUN_STARTS + v])
-}
-
-fn later(a: usize, b: usize) -> usize
-    ensures { result ≡ max a b }
-{
-    if a < b { b } else { a }
-}
-
-// The first link of node v from link i on; where there is none, the number of links.
-pub fn next_link(net: &[u32], i: usize, v: usize) -> usize
-    requires { Arranged net.now × (i ≤ links net.now) × (v < nodes net.now) }
-    ensures { Next (leaves net.now v) (links net.now) i result }
-{
-    let k = later(i, link_start(net, v));
-    if k < link_start(net, v + 1) {
-        return k;
+impl<'a> Network<'a> {
+    // Where the records of node v stand, by their starts in the room.
+    fn stretch(&self, starts: usize, v: usize) -> Range<usize>
+        requires { (starts ≤ fun_starts) × (v < nodes self.now) }
+        ensures from { result.start ≡ get_or self.now (starts + v) 0 }
+        ensures to { result.end ≡ get_or self.now (starts + suc v) 0 }
+        ensures arranged { Arranged self.now }
+    {
+        let room = self.room;
+        room[starts + v] as usize..room[starts + v + 1] as usize
     }
-    links(net)
-}
 
-// Whether function j is of this kind, for the protocol x.
-pub fn is_for(net: &[u32], j: usize, k: usize, x: usize) -> bool
-    requires { Arranged net.now × (j < funs net.now) }
-    ensures { result ≡ (eqb (kind net.now j) k && eqb (x_of net.now j) x) }
-{
-    (fun_kind(net, j) == k) & (fun_x(net, j) == x)
-}
+    // The links that leave node v.
+    pub fn links_of(&self, v: usize) -> Range<usize>
+        requires { v < nodes self.now }
+        ensures { Stretch (leaves self.now v) (links self.now) result.start result.end }
+    {
+        self.stretch(LINK_STARTS, v)
+    }
 
-// The first function of node v from function j on, of this kind, for the protocol x; where there is none, the number of functions.
-pub fn next_fun(net: &[u32], j: usize, v: usize, kind: usize, x: usize) -> usize
-    requires { Arranged net.now × (j ≤ funs net.now) × (v < nodes net.now) }
-    ensures { Next (suits net.now v kind x) (funs net.now) j result }
-{
-    let end = fun_start(net, v + 1);
-    let mut k = later(j, fun_start(net, v));
-    while k < end {
-        if is_for(net, k, kind, x) {
-            return k;
+    // The functions of node v.
+    pub fn funs_of(&self, v: usize) -> Range<usize>
+        requires { v < nodes self.now }
+        ensures { Stretch (stands self.now v) (funs self.now) result.start result.end }
+    {
+        self.stretch(FUN_STARTS, v)
+    }
+
+    // Whether function j is of this kind, for the protocol x. A kind is its code here, as the room holds it: every number is answered.
+    pub fn is_for(&self, j: usize, k: usize, x: usize) -> bool
+        requires { j < funs self.now }
+        ensures { result ≡ (eqb (kind self.now j) k && eqb (x_of self.now j) x) }
+    {
+        (self.fun_kind(j) == k) & (self.fun_x(j) == x)
+    }
+
+    // The first function of node v from function j on, of this kind, for the protocol x; where there is none, the number of functions.
+    pub fn next_fun(&self, j: usize, v: usize, kind: usize, x: usize) -> usize
+        requires { (j ≤ funs self.now) × (v < nodes self.now) }
+        ensures { Next (suits self.now v kind x) (funs self.now) j result }
+    {
+        let own = self.funs_of(v);
+        for k in j.max(own.start)..own.end {
+            if self.is_for(k, kind, x) {
+                return k;
+            }
         }
-        k += 1;
+        self.funs()
     }
-    funs(net)
 }
