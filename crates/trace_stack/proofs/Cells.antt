@@ -2,19 +2,15 @@
 -- Assumes nothing.
 use Prim.Native.Nat.{ℕ, zero, suc, ◌+◌, ◌-◌, ◌<◌, ◌≤◌}
 use mathlib.Core.Path.{◌≡◌, refl, ap, ◌∙◌, subst, sym}
-use mathlib.Core.Bool.{Bool, true, false, cond}
 use mathlib.Core.List.{List, [], ◌∷◌}
 use mathlib.Core.Option.{some, none-ne-some}
 use native.Mathlib.Numerals.{add-one}
 use native.Mathlib.Omega.{arith}
-use lib.Dec.{eqb}
 use lib.ListN.{length, set}
 use lib.Seq.{get_or-set_same, get_or-set_other}
-use borrow.Author.Tests.{ne_eqb}
 use Rattle.paper.specs.Net.{Kind, conv, wrap, unwrap}
 use Rattle.paper.specs.Route.{act}
 use Rattle.laws.proofs.Parse.{conv_inv, wrap_inv, unwrap_inv}
-use Rattle.network_records.specs.Columns.{kind_of_code}
 use Rattle.trace_stack.specs.declared.Stack.{Stack}
 use Rattle.trace_stack.specs.Items.{highest, below, items, beneath, acted, height_after, cell_of, stored, Ready}
 
@@ -55,25 +51,7 @@ unfolding below beneath
 below_pop cs zero p = absurd (omega arith)
 below_pop cs (suc h) p = let e : suc h - 1 ≡ h = omega arith in rw e
 
--- ## Kinds
-
-pub kind_other : (k : ℕ) → (k ≡ 0 → ⊥) → (k ≡ 1 → ⊥) → kind_of_code k ≡ unwrap
-unfolding kind_of_code
-kind_other k p q = rw (ne_eqb k 0 p, ne_eqb k 1 q)
-
-pub cell_else : (k h : ℕ) → (k ≡ 1 → ⊥) → h - 1 ≡ cell_of (kind_of_code k) h
-unfolding kind_of_code cell_of
-cell_else k h p = go (eqb k 0)
-  where
-    go : (b : Bool) → h - 1 ≡ cell_of (cond b conv (cond (eqb k 1) wrap unwrap)) h
-    go true = refl
-    go false = rw (ne_eqb k 1 p)
-
 -- ## A step
-
--- the stack s has become r by a function of the kind k with the outer protocol y
-abbrev pub Done : Stack → ℕ → ℕ → Stack → Type 0
-Done s k y r = items r ≡ acted (kind_of_code k) y (items s)
 
 module _ (y : ℕ) (s : Stack) where
   -- the cell is one of the stack's

@@ -2,8 +2,10 @@
 #![tactic(auto)]
 
 ghost use Rattle.std.specs.Prelude.{◌≡◌, [], ◌∷◌, ◌≤◌};
-ghost use Rattle.network_records.specs.Columns.{kind_of_code};
+ghost use Rattle.network_records.specs.Kinds.{named};
 ghost use Rattle.trace_stack.specs.Items.{highest, height_after, cell_of, items, acted, Ready};
+
+use network_records::kind::Kind;
 
 // A route of 4,096 steps has at most 2,048 tunnels open at once.
 pub const HIGHEST: usize = 2049;
@@ -14,51 +16,49 @@ pub struct Stack {
     pub height: usize,
 }
 
-// The stack that holds only p.
-pub fn holding(p: u8) -> Stack
-    ensures { items result ≡ p ∷ [] }
-{
-    let mut s = Stack {
-        cells: [0u8; HIGHEST],
-        height: 1,
-    };
-    s.cells[0] = p;
-    s
+impl Stack {
+    // The stack that holds only p.
+    #[tactic(auto, unfolding(crate::specs::Items::items, crate::specs::Items::below))]
+    pub fn holding(p: u8) -> Self
+        ensures { items result ≡ p ∷ [] }
+    {
+        let mut cells = [0; HIGHEST];
+        cells[0] = p;
+        Stack { cells, height: 1 }
+    }
+
+    // The step function: of the stack that is lent to it, one cell and the height are stored.
+    pub fn step_in(&mut self, kind: Kind, y: u8)
+        requires { Ready (named kind) y self.old }
+        ensures { items self.new ≡ acted (named kind) y (items self.old) }
+    {
+        let at = cell_of(kind, self.height);
+        self.cells[at] = y;
+        self.height = height_after(kind, self.height);
+    }
 }
 
-// The height after one function's work: conv 0, wrap 1, unwrap 2.
-pub fn height_after(kind: u16, height: usize) -> usize
+// The height after one function's work.
+#[tactic(auto, unfolding(crate::specs::Items::height_after))]
+pub fn height_after(kind: Kind, height: usize) -> usize
     requires { (1 ≤ height) × (height ≤ highest) }
-    ensures { result ≡ height_after (kind_of_code kind) height }
+    ensures { result ≡ height_after (named kind) height }
 {
-    if kind == 0 {
-        return height;
+    match kind {
+        Kind::Conv => height,
+        Kind::Wrap => height + 1,
+        Kind::Unwrap => height - 1,
     }
-    if kind == 1 {
-        return height + 1;
-    }
-    height - 1
 }
 
 // The cell of a function's outer protocol, where `above` is the cell above the top: that one for wrap, else the top.
-fn cell_of(kind: u16, above: usize) -> usize
+#[tactic(auto, unfolding(crate::specs::Items::cell_of))]
+fn cell_of(kind: Kind, above: usize) -> usize
     requires { 1 ≤ above }
-    ensures { result ≡ cell_of (kind_of_code kind) above }
+    ensures { result ≡ cell_of (named kind) above }
 {
-    if kind != 1 {
-        return above - 1;
+    match kind {
+        Kind::Wrap => above,
+        Kind::Conv | Kind::Unwrap => above - 1,
     }
-    above
-}
-
-// The step function: of the stack that is lent to it, one cell and the height are stored.
-pub fn step_in(s: &mut Stack, kind: u16, y: u8)
-    requires { Ready (kind_of_code kind) y s.old }
-    ensures { items s.new ≡ acted (kind_of_code kind) y (items s.old) }
-{
-    let height = s.height;
-    let at = cell_of(kind, height);
-    let next = height_after(kind, height);
-    s.cells[at] = y;
-    s.height = next;
 }
