@@ -10,7 +10,7 @@ use lib.ListN.{length, length-append}
 use borrow.Author.Tests.{ltb-true, lt-ltb, le-ltb}
 use Rattle.paper.specs.Text.{decimal_to, decimal}
 use Rattle.laws.proofs.Before.{Test, holds, fails, test}
-use Rattle.digits.specs.Write.{digit_byte, last_digits}
+use Rattle.digits.specs.Digits.{digit_byte, last_digits}
 
 pub ten_power_pos : (k : ℕ) → 0 < 10 ^ k
 ten_power_pos zero = omega arith

@@ -12,7 +12,8 @@ use Rattle.paper.specs.Rooms.{laid}
 use Rattle.paper.specs.Text.{decimal, tabbed}
 use Rattle.laws.proofs.Laid.{laid_none, laid_one, laid_then, laid_seq, length_laid}
 use Rattle.digits.specs.declared.write.Writer.{Writer}
-use Rattle.digits.specs.Write.{Put, Left, Holds, Wrote, Leaves, digit_byte, last_digits}
+use Rattle.digits.specs.Digits.{digit_byte, last_digits}
+use Rattle.digits.specs.Write.{Put, Left, Holds, Wrote, Leaves}
 use Rattle.digits.proofs.Digits.{digits_first, decimal_digits}
 
 pub then : {d e f : List ℕ} {i j k : ℕ} {s t : List ℕ} → Put d e i j s → Put e f j k t → Put d f i k (s ++ t)

@@ -1,5 +1,5 @@
--- What a writer promises of its room, and a number's digits by the powers of ten. Assumes nothing: these are definitions.
-use Rattle.std.specs.Prelude.{◌≡◌, List, [], ◌∷◌, ℕ, zero, suc, ◌+◌, ◌≤◌, ◌/◌, ◌%◌, ◌^◌, length}
+-- What a writer promises of its room. Assumes nothing: these are definitions.
+use Rattle.std.specs.Prelude.{◌≡◌, List, ℕ, ◌+◌, ◌≤◌, length}
 use Rattle.paper.specs.Rooms.{laid}
 use Rattle.digits.specs.declared.write.Writer.{Writer}
 
@@ -28,12 +28,3 @@ pub record Wrote (w v : Writer) (s : List ℕ) : Type 0 where
 pub record Leaves (w v : Writer) (s t : List ℕ) : Type 0 where
   pub room : v.out.ghost_name ≡ w.out.ghost_name
   pub left : Left w.out.now w.at s v.out.now v.at t
-
--- the digit of n at the power 10 ^ k, as a byte
-unfoldable pub digit_byte : ℕ → ℕ → ℕ
-digit_byte n k = 48 + n / 10 ^ k % 10
-
--- the last k digits of n, the highest first
-unfoldable pub last_digits : ℕ → ℕ → List ℕ
-last_digits zero n = []
-last_digits (suc k) n = digit_byte n k ∷ last_digits k n

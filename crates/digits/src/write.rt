@@ -1,9 +1,9 @@
 // Bytes, words, numbers and fields, written straight into a room, one after another.
-ghost use Rattle.std.specs.Prelude.{◌≡◌, [], ◌∷◌, map, ◌≤◌, ◌<◌, length};
+ghost use Rattle.std.specs.Prelude.{◌≡◌, [], ◌∷◌, map, ◌+◌, ◌≤◌, ◌<◌, length};
 ghost use Rattle.paper.specs.Text.{decimal, tabbed};
 ghost use Rattle.paper.specs.Normal.{kind_word};
 ghost use Rattle.network_records.specs.Kinds.{named};
-ghost use Rattle.digits.specs.Write.{Wrote, Holds, digit_byte};
+ghost use Rattle.digits.specs.Digits.{digit_byte};
 
 use crate::tens::ten;
 use network_records::kind::Kind;
@@ -29,14 +29,17 @@ fn digit(n: u32, k: usize) -> u8
     (48 + n / ten(k) % 10) as u8
 }
 
-// A room that is written from its front on: the next byte goes to entry `at`.
+// A room that is written from its front on: the next byte goes to entry `at`, which is never past the room's end.
 #[derive(Drop)]
 pub struct Writer<'a> {
     out: &'a mut [u8],
     at: usize,
+    ghost within: { at ≤ length out.now },
 }
 
 impl<'a> Writer<'a> {
+    ghost use Rattle.digits.specs.Write.{Wrote, Holds};
+
     pub fn new(out: &'a mut [u8]) -> Writer<'a>
         ensures room { result.out.ghost_name ≡ out.entry.ghost_name }
         ensures empty { (result.out.now ≡ out.old) × (result.at ≡ 0) }
@@ -46,9 +49,17 @@ impl<'a> Writer<'a> {
 
     // How many bytes are written.
     pub fn written(&self) -> usize
-        ensures { result ≡ self.now.at }
+        ensures value { result ≡ self.now.at }
+        ensures within { result ≤ length self.now.out.now }
     {
         self.at
+    }
+
+    // How many bytes still have room.
+    pub fn space(&self) -> usize
+        ensures { self.now.at + result ≡ length self.now.out.now }
+    {
+        self.out.len() - self.at
     }
 
     pub fn byte(&mut self, b: u8)

@@ -1,6 +1,6 @@
 -- The power of ten comes from the table. Assumes nothing.
 use Rattle.digits.proofs.Digits.{ten_power_pos}
-use Rattle.digits.specs.Write.{digit_byte}
+use Rattle.digits.specs.Digits.{digit_byte}
 use Rattle.digits.proofs.write.digit.Goals as goal
 
 pub nonzero_div-result : goal.nonzero_div-result
