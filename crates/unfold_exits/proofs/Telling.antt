@@ -13,6 +13,7 @@ use Rattle.tables_costs.specs.Cells.{value}
 use Rattle.tables_costs.specs.Costs.{far}
 use Rattle.unfold_exits.specs.Cost.{cost, told, Square}
 use Rattle.unfold_exits.specs.Lists.{exit_of, Ranged}
+use Rattle.unfold_exits.specs.declared.lists.Exit.{Exit}
 
 pub told_heavy : (w s : ℕ) → heaviest < w → far ≡ told w s
 unfolding told
@@ -53,10 +54,10 @@ told_near w s = go (leb w heaviest) (leb s longest) (leb-true w heaviest) (leb-t
     go false c f g i j h = absurd (omega arith)
 
 -- an exit's entry in a row
-module _ (W C E : List ℕ) (len size row i : ℕ) (r : Ranged size E len) (h : i < len) (hw : row + size ≤ length W) (hc : row + size ≤ length C) where
+module _ (W C : List ℕ) (E : List Exit) (size row i : ℕ) (r : Ranged size E) (h : i < length E) (hw : row + size ≤ length W) (hc : row + size ≤ length C) where
   pub entry_in : (row + exit_of E i < length W) × (row + exit_of E i < length C)
   entry_in = (omega (arith, r.place_below i h), omega (arith, r.place_below i h))
 
 -- the row of one of `size` places, where s is their number
-pub row_in : {size : ℕ} {W C E : List ℕ} {len : ℕ} (s row : ℕ) → Square size W C → Ranged size E len → s ≡ size → row + s ≤ s * s → Ranged s E len × (row + s ≤ length W) × (row + s ≤ length C)
+pub row_in : {size : ℕ} {W C : List ℕ} {E : List Exit} (s row : ℕ) → Square size W C → Ranged size E → s ≡ size → row + s ≤ s * s → Ranged s E × (row + s ≤ length W) × (row + s ≤ length C)
 row_in {size} s row q r e h = let k : row + size ≤ size * size = rw e at h in (rw e r, omega (arith, e, q.weights), omega (arith, e, q.counts))

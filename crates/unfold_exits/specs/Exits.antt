@@ -2,11 +2,11 @@
 -- W and C are the weight and count rooms, L the choice room, g the network.
 use Rattle.std.specs.Prelude.{ℕ, ◌+◌, ◌*◌, ◌<◌, ◌≤◌, ◌≡◌, cond, List, T, eqb, length, get_or}
 use Rattle.network.specs.Network.{nodes, protocols, links, places, from, to, toll, node, kind, x_of, y_of, fee, place_in}
-use Rattle.network.specs.Arranged.{Arranged}
 use Rattle.unfold_frames.specs.Frames.{words_for, mark}
 use Rattle.tables_costs.specs.Costs.{far}
 use Rattle.unfold_exits.specs.Cost.{cost, told_at, least, Square}
 use Rattle.unfold_exits.specs.Lists.{Ranged, finishing}
+use Rattle.unfold_exits.specs.declared.lists.Exit.{Exit}
 
 -- ## An open level of `size` places, whose record begins at entry o
 
@@ -34,16 +34,14 @@ pub record Reading (size : ℕ) (W C L : List ℕ) (o : ℕ) : Type 0 where
 -- ## A tunnel over x from the level whose exits are listed in E
 
 -- what crossing a link asks
-pub record Crossing (g W C E : List ℕ) (len x : ℕ) : Type 0 where
-  pub arranged : Arranged g
-  pub square : Square (places g) W C
+pub record Crossing (g : List ℕ) (E : List Exit) (x : ℕ) : Type 0 where
   pub protocol : x < protocols g
-  pub ranged : Ranged (places g) E len
+  pub ranged : Ranged (places g) E
 
-module _ (g W C E : List ℕ) (len x : ℕ) where
+module _ (g W C : List ℕ) (E : List Exit) (x : ℕ) where
   -- over link i, and then to the level's end
   unfoldable pub crossed : ℕ → ℕ
-  crossed i = cost (toll g i) 1 + finishing W C E len (place_in g (to g i) x * places g)
+  crossed i = cost (toll g i) 1 + finishing W C E (place_in g (to g i) x * places g)
 
   -- the same, if the link leaves node u
   unfoldable pub landing : (u i : ℕ) → ℕ
@@ -66,11 +64,10 @@ pub record Unwrapping (g : List ℕ) (x : ℕ) (land : ℕ → ℕ) (j e k : ℕ
   pub cost_is : k ≡ cost (fee g j) 0 + land (node g j)
   pub near : k < far
 
-abbrev pub Unwraps : (g W C E : List ℕ) (len x : ℕ) → (j e k : ℕ) → Type 0
-Unwraps g W C E len x = Unwrapping g x (lands g W C E len x)
+abbrev pub Unwraps : (g W C : List ℕ) (E : List Exit) (x : ℕ) → (j e k : ℕ) → Type 0
+Unwraps g W C E x = Unwrapping g x (lands g W C E x)
 
 -- what listing such exits asks, with the cost from each node in G
 pub record Closing (g G : List ℕ) : Type 0 where
-  pub arranged : Arranged g
   pub some : nodes g ≤ length G
   pub most : (u : ℕ) → u < nodes g → get_or G u 0 ≤ far

@@ -14,7 +14,7 @@ use lib.Pow.{pow-lt, pow_pos, pow-add, shl-shr}
 use lib.Seq.{get_or-set_same, get_or-set_other}
 use borrow.Author.Tests.{lt-ltb}
 use Rattle.laws.proofs.Order.{Three, three, less, same, more}
-use Rattle.unfold_frames.specs.Frames.{bit, with_mark, mark}
+use Rattle.unfold_frames.specs.Frames.{words_for, bit, with_mark, mark}
 
 -- ## Digits of a word
 
@@ -95,3 +95,8 @@ module _ (words : ℕ) where
   -- a word of zeros marks nothing
   pub mark_none : (L : List ℕ) (o i : ℕ) → get_or L (o + 5 + i / 16) 0 ≡ 0 → T (mark words L o i) → ⊥
   mark_none L o i e t = let f = ap (λ (w : ℕ). w / 2 ^ (i % 16) % 2) (sym e) ∙ mark_digit L o i t in omega (arith, f, zero-div (2 ^ (i % 16)))
+
+-- a place's bit is its digit in its word
+pub bit_mark : (size : ℕ) (L : List ℕ) (o e w b : ℕ) (r : Bool) → e < size → w ≡ get_or L (o + 5 + e / 16) 0 → b ≡ e % 16 → r ≡ bit w b → r ≡ mark (words_for size) L o e
+unfolding mark
+bit_mark size L o e w b r h f g k = rw (lt-ltb e (16 * words_for size) (omega arith), ← f, ← g) k

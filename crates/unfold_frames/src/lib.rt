@@ -3,7 +3,7 @@
 
 ghost use Rattle.std.specs.Prelude.{◌≡◌, [], ◌∷◌, ◌+◌, ◌*◌, ◌/◌, ◌%◌, ◌^◌, ◌<◌, ◌≤◌, length, get_or, replicate};
 ghost use Rattle.paper.specs.Rooms.{laid};
-ghost use Rattle.unfold_frames.specs.Frames.{words_for, bit, blank, with_mark};
+ghost use Rattle.unfold_frames.specs.Frames.{words_for, bit, blank, mark, with_mark};
 
 // The words that hold a bit for each of `size` places.
 pub fn words_for(size: usize) -> usize
@@ -13,24 +13,65 @@ pub fn words_for(size: usize) -> usize
     (size + 15) / 16
 }
 
-// An entry of the room.
-pub fn entry(choice: &[u16], i: usize) -> u32
-    requires { i < length choice.now }
-    ensures { (result ≡ get_or choice.now i 0) × (result < 65536) }
-{
-    u32::from(choice[i])
+// The record of a level that is read: it begins at entry `at` of the choice room.
+#[derive(Clone, Copy)]
+pub struct Record<'a> {
+    pub choice: &'a [u16],
+    pub at: usize,
 }
 
-// The weight left of the record that begins at entry o.
-pub fn weight_left(choice: &[u16], o: usize) -> u32
-    requires { o + 5 ≤ length choice.now }
-    ensures { result ≡ get_or choice.now (o + 2) 0 + 65536 * get_or choice.now (o + 3) 0 }
-{
-    entry(choice, o + 2) + 65536 * entry(choice, o + 3)
+impl<'a> Record<'a> {
+    // The number of the place where its level begins.
+    pub fn place(&self) -> usize
+        requires { self.now.at < length self.now.choice.now }
+        ensures { result ≡ get_or self.now.choice.now self.now.at 0 }
+    {
+        usize::from(self.choice[self.at])
+    }
+
+    // The protocol that its level hides.
+    pub fn hidden(&self) -> usize
+        requires { self.now.at + 1 < length self.now.choice.now }
+        ensures { result ≡ get_or self.now.choice.now (self.now.at + 1) 0 }
+    {
+        usize::from(self.choice[self.at + 1])
+    }
+
+    // The weight left at the beginning of its level, and the steps.
+    pub fn weight_left(&self) -> u32
+        requires { self.now.at + 5 ≤ length self.now.choice.now }
+        ensures { result ≡ get_or self.now.choice.now (self.now.at + 2) 0 + 65536 * get_or self.now.choice.now (self.now.at + 3) 0 }
+    {
+        u32::from(self.choice[self.at + 2]) + 65536 * u32::from(self.choice[self.at + 3])
+    }
+
+    pub fn steps_left(&self) -> u16
+        requires { self.now.at + 5 ≤ length self.now.choice.now }
+        ensures { result ≡ get_or self.now.choice.now (self.now.at + 4) 0 }
+    {
+        self.choice[self.at + 4]
+    }
+
+    // Word q of its marks.
+    pub fn word(&self, q: usize) -> u16
+        requires { self.now.at + 5 + q < length self.now.choice.now }
+        ensures { result ≡ get_or self.now.choice.now (self.now.at + 5 + q) 0 }
+    {
+        self.choice[self.at + 5 + q]
+    }
+
+    // Whether place e, one of `size`, is marked.
+    pub fn is_marked(&self, size: usize, e: usize) -> bool
+        requires { (self.now.at + 5 + words_for size ≤ length self.now.choice.now) × (e < size) }
+        ensures { result ≡ mark (words_for size) self.now.choice.now self.now.at e }
+    {
+        has_bit(self.word(e / 16), (e % 16) as u16)
+    }
 }
 
 // Whether digit b of a word is set.
-pub fn has_bit(word: u16, b: u16) -> bool
+#[tactic(auto, unfolding(crate::specs::Frames::bit))]
+fn has_bit(word: u16, b: u16) -> bool
     requires { b < 16 }
     ensures { result ≡ bit word b }
 {

@@ -2,4 +2,4 @@ use Rattle.unfold_exits.proofs.Landings.{landed_more}
 use Rattle.unfold_exits.proofs.tunnels.land.Goals as goal
 
 pub returns : goal.returns
-returns c = let f = c.link_from.ensures in landed_more _ _ _ _ _ _ c.args.i _ _ c.requires.2 f.0 (rw (← f.0) f.1) c.cross-cost.ensures c.lower_to.ensures
+returns c = let f = c.link_from-from.ensures in landed_more _ _ _ _ _ c.args.i _ _ c.requires.2 f.0 (rw (← f.0) f.1) c.cross.ensures (rw c.min.ensures)

@@ -1,7 +1,5 @@
-use mathlib.Core.Path.{◌≡◌}
-use lib.ListN.{length}
 use Rattle.unfold_exits.specs.Exits.{Landed}
 use Rattle.unfold_exits.proofs.tunnels.land_all.Given as goal
 
 abbrev pub invariant-loop-i : goal.invariant-loop-i
-invariant-loop-i l = Landed l.net l.weight l.count l.exits l.len l.x l.i l.lands × (length l.lands ≡ length l.initial.lands)
+invariant-loop-i l = Landed l.solved.net.now l.solved.tables.weight.now l.solved.tables.count.now l.exits l.x l.i l.lands
