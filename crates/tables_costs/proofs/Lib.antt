@@ -1,4 +1,3 @@
 pub mod Corners
 pub mod Values
 pub mod Worth
-pub mod Stores

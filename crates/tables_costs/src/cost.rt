@@ -9,25 +9,14 @@ use paper::limits::{HEAVIEST, LONG_MARK, NEVER_MARK, OVER_MARK};
 
 pub const FAR: u64 = 1152921504606846976;
 
-fn wide(x: u32) -> u64
-    ensures { (result ≡ x) × (result < 4294967296) }
-{
-    x as u64
-}
-
-fn few(s: u16) -> u64
-    ensures { (result ≡ s) × (result < 65536) }
-{
-    s as u64
-}
-
 // The cost of one step, or of one link crossed in it.
 pub fn step_cost(weight: u32, steps: u16) -> u64
     ensures { (result ≡ weight * 65536 + steps) × (result < 281474976710656) }
 {
-    wide(weight) * 65536 + few(steps)
+    u64::from(weight) * 65536 + u64::from(steps)
 }
 
+#[tactic(auto, using(crate::proofs::Worth::cost_marked, crate::proofs::Worth::cost_plain))]
 pub fn cost_of(weight: u32, count: u16) -> u64
     ensures { (result ≡ cost_of weight count) × (result ≤ far) }
 {
@@ -45,6 +34,7 @@ pub fn is_never(weight: &[u32], i: usize) -> bool
     weight[i] == NEVER_MARK
 }
 
+#[tactic(auto, unfolding(crate::specs::Costs::cost_at))]
 pub fn cost_at(weight: &[u32], count: &[u16], i: usize) -> u64
     requires { (i < length weight.now) × (i < length count.now) }
     ensures { (result ≡ cost_at weight.now count.now i) × (result ≤ far) }
@@ -55,7 +45,7 @@ pub fn cost_at(weight: &[u32], count: &[u16], i: usize) -> u64
 pub fn least(a: u64, b: u64) -> u64
     ensures { result ≡ min a b }
 {
-    if a < b { a } else { b }
+    a.min(b)
 }
 
 pub fn cost_there(costs: &[u64], i: usize) -> u64
@@ -65,21 +55,12 @@ pub fn cost_there(costs: &[u64], i: usize) -> u64
     costs[i]
 }
 
+#[tactic(auto, unfolding(crate::specs::Costs::lower_to))]
 pub fn lower_to(costs: &mut [u64], i: usize, k: u64)
     requires { i < length costs.old }
     ensures { costs.new ≡ lower_to i k costs.old }
 {
-    costs[i] = least(k, costs[i]);
-}
-
-fn held(s: u64) -> u16
-    ensures { result ≡ min s long_mark }
-{
-    if s < few(LONG_MARK) {
-        s as u16
-    } else {
-        LONG_MARK
-    }
+    costs[i] = k.min(costs[i]);
 }
 
 // The two entries that stand for a cost.
@@ -92,7 +73,7 @@ pub fn entry_of(k: u64) -> Entry
             count: 0,
         };
     }
-    if wide(HEAVIEST) < k / 65536 {
+    if u64::from(HEAVIEST) < k / 65536 {
         return Entry {
             weight: OVER_MARK,
             count: 0,
@@ -100,6 +81,6 @@ pub fn entry_of(k: u64) -> Entry
     }
     Entry {
         weight: (k / 65536) as u32,
-        count: held(k % 65536),
+        count: (k % 65536).min(u64::from(LONG_MARK)) as u16,
     }
 }

@@ -9,6 +9,7 @@ pub struct Entry {
 }
 
 // Whether a weighs less than b, or as much with fewer steps.
+#[tactic(auto, unfolding(crate::specs::Cells::less))]
 pub fn lighter(a: Entry, b: Entry) -> bool
     ensures { result ≡ less a.weight a.count b.weight b.count }
 {
@@ -34,6 +35,7 @@ pub fn put(weight: &mut [u32], count: &mut [u16], i: usize, e: Entry)
 }
 
 // Where the row of a place begins, of `size` places.
+#[tactic(auto, using(crate::proofs::Corners::begin_le, crate::proofs::Corners::square))]
 pub fn row_of(size: usize, place: usize) -> usize
     requires { (size ≤ 1024) × (place < size) }
     ensures { (result ≡ place * size) × (result + size ≤ size * size) }
@@ -42,6 +44,7 @@ pub fn row_of(size: usize, place: usize) -> usize
 }
 
 // Stores e at i where it is lighter than what stands there. The result: whether this or anything earlier fell.
+#[tactic(auto, unfolding(crate::specs::Cells::lowered))]
 pub fn lower(weight: &mut [u32], count: &mut [u16], i: usize, e: Entry, fell: bool) -> bool
     requires { (i < length weight.old) × (i < length count.old) }
     ensures { cells weight.new count.new result ≡ lowered i e.weight e.count (cells weight.old count.old fell) }

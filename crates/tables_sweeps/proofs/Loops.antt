@@ -7,7 +7,18 @@ use native.Mathlib.Decide.{dec_lt}
 use native.Mathlib.Numerals.{add-one}
 use Rattle.tables_costs.specs.Loop.{upto}
 
--- one turn more
+-- no turn yet, and one turn more
+pub upto_start : {S : Type 0} (f : ℕ → S → S) (s : S) → upto f 0 s ≡ s
+unfolding upto
+upto_start f s = refl
+
+pub upto_more : {S : Type 0} (f : ℕ → S → S) (i : ℕ) (s : S) → upto f (i + 1) s ≡ f i (upto f i s)
+unfolding upto
+upto_more f i s = rw (add-one i) refl
+
+-- what a counting loop has done so far
+pub ruleset turns = (upto_start, upto_more)
+
 pub turn : {S : Type 0} (f : ℕ → S → S) (i : ℕ) (s₀ s t : S) → s ≡ upto f i s₀ → t ≡ f i s → t ≡ upto f (i + 1) s₀
 unfolding upto
 turn f i s₀ s t h k = rw (add-one i) (k ∙ ap (f i) h)

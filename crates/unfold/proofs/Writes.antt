@@ -3,7 +3,7 @@ use Prim.Native.Nat.{ℕ, zero, suc, ◌+◌, ◌-◌, ◌*◌, ◌<◌, ◌≤�
 use mathlib.Core.Path.{◌≡◌, refl, sym, ap, ◌∙◌}
 use mathlib.Core.List.{List, [], ◌∷◌, ◌++◌}
 use native.Mathlib.Omega.{arith}
-use lib.ListN.{length, get_or, set}
+use lib.ListN.{length, get_or}
 use Rattle.paper.specs.Net.{Kind, conv, wrap, unwrap, code, Key, key}
 use Rattle.paper.specs.Rooms.{laid}
 use Rattle.paper.specs.Route.{flat}
@@ -13,20 +13,6 @@ use Rattle.laws.proofs.Parts.{flat_append, flat_length}
 use Rattle.unfold_tries.specs.declared.trial.Spot.{Spot}
 use Rattle.unfold_tries.specs.declared.trial.Step.{Step}
 use Rattle.unfold_picks.specs.Contract.{PickedIn, Taken}
-
--- four stores are a step key
-pub key_laid : (d : List ℕ) (i : ℕ) (k : List ℕ) → length k ≡ 4 → set (set (set (set d i (get_or k 0 0)) (i + 1) (get_or k 1 0)) (i + 2) (get_or k 2 0)) (i + 3) (get_or k 3 0) ≡ laid d i k
-unfolding laid
-key_laid d i [] h = absurd (omega arith)
-key_laid d i (a ∷ []) h = absurd (omega arith)
-key_laid d i (a ∷ b ∷ []) h = absurd (omega arith)
-key_laid d i (a ∷ b ∷ c ∷ []) h = absurd (omega arith)
-key_laid d i (a ∷ b ∷ c ∷ e ∷ []) h =
-    let p : i + 1 ≡ suc i = omega arith in
-    let q : i + 2 ≡ suc (suc i) = omega arith in
-    let r : i + 3 ≡ suc (suc (suc i)) = omega arith in
-    rw (p, q, r)
-key_laid d i (a ∷ b ∷ c ∷ e ∷ f ∷ k) h = absurd (omega arith)
 
 -- some steps, with m left, and the steps behind them
 pub wrote_then : (Q : List ℕ) {Q' Q'' : List ℕ} (ks js : List Key) (total n m : ℕ) → n ≤ total → length ks + m ≡ n → Q' ≡ laid Q (4 * (total - n)) (flat ks) → Q'' ≡ laid Q' (4 * (total - m)) (flat js)

@@ -15,16 +15,7 @@ fn put(steps: &mut [u16], done: usize, key: [u16; 4])
     requires { 4 * done + 4 ≤ length steps.old }
     ensures { steps.new ≡ laid steps.old (4 * done) key }
 {
-    steps[4 * done] = key[0];
-    steps[4 * done + 1] = key[1];
-    steps[4 * done + 2] = key[2];
-    steps[4 * done + 3] = key[3];
-}
-
-fn index(x: u16) -> usize
-    ensures { result ≡ x }
-{
-    x as usize
+    steps[4 * done..4 * done + 4].copy_from_slice(&key);
 }
 
 // Unfolds the level that is open, from `at` on: its steps and tunnels, and the unwrap that closes it; at the bottom, to the route's end.
@@ -64,7 +55,7 @@ pub fn level(
                 net, weight, count, choice, steps, course, here, s, exits, outs,
             );
         } else {
-            put(steps, index(course.total - here.left), key);
+            put(steps, usize::from(course.total - here.left), key);
             if kind == 2 {
                 return s.to;
             }
@@ -95,7 +86,7 @@ pub fn tunnel(
     let end = course.end;
     let key = s.key;
     let to = s.to;
-    put(steps, index(course.total - at.left), key);
+    put(steps, usize::from(course.total - at.left), key);
     open(
         net,
         weight,

@@ -47,9 +47,6 @@ module _ (g W C E : List ℕ) (len x : ℕ) where
           let away : eqb (from g i) u ≡ false = ne_eqb (from g i) u (λ f. e (ea ∙ f)) in
           rw (get_or-set_other G a u (min k (get_or G a 0)) 0 (λ f. e (sym f)), l.each u h, away) (omega (arith, least_far (landing g W C E len x u) i))
 
-  pub landed_to : {G : List ℕ} (i : ℕ) → i ≤ links g → links g ≤ i → Landed g W C E len x i G → Landed g W C E len x (links g) G
-  landed_to i h k l = let e : i ≡ links g = omega arith in rw e at l
-
   pub landed_most : {G : List ℕ} → Landed g W C E len x (links g) G → (u : ℕ) → u < nodes g → get_or G u 0 ≤ far
   landed_most l u h = rw (l.each u h) (least_far (landing g W C E len x u) (links g))
 

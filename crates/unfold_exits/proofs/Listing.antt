@@ -71,7 +71,3 @@ module _ (Q : ℕ → ℕ → ℕ → Type 0) where
       few = omega (arith, g.few);
       lists = record { each = λ i h. each_of i (dec_lt i len) h; all = λ e c s. all_of e c s (dec_lt s.at m) };
     }
-
--- the end of a loop
-pub gathered_to : {Q : ℕ → ℕ → ℕ → Type 0} {E : List ℕ} {len : ℕ} (i m : ℕ) → i ≤ m → m ≤ i → Gathered Q i E len → Gathered Q m E len
-gathered_to i m h k g = let e : i ≡ m = omega arith in rw e at g

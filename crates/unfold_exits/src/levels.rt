@@ -8,13 +8,7 @@ use crate::lists::add_exit;
 use crate::told::told_at;
 use tables_costs::cost::step_cost;
 use tables_costs::entry::row_of;
-use unfold_frames::{entry, has_bit, weight_left, words_for};
-
-fn index(x: u32) -> usize
-    ensures { result ≡ x }
-{
-    x as usize
-}
+use unfold_frames::{has_bit, weight_left, words_for};
 
 // What was left at the beginning of the level whose record begins at entry o.
 fn left_at(choice: &[u16], o: usize) -> u64
@@ -52,7 +46,7 @@ fn list_place(
     if !is_marked(choice, o, size, e) {
         return len;
     }
-    let told = told_at(weight, count, row_of(size, index(entry(choice, o))) + e);
+    let told = told_at(weight, count, row_of(size, usize::from(choice[o])) + e);
     let left = left_at(choice, o);
     if left < told {
         return len;
@@ -73,14 +67,12 @@ fn list_word(
     requires { Reading size weight.now count.now choice.now o × Ample exits.old × (q < words_for size) × Gathered (LeavesBy size weight.now count.now choice.now o) (16 * q) exits.old len }
     ensures { Gathered (LeavesBy size weight.now count.now choice.now o) (16 * (q + 1)) exits.new result }
 {
-    if entry(choice, o + 5 + q) == 0 {
+    if choice[o + 5 + q] == 0 {
         return len;
     }
     let mut m = len;
-    let mut e = 16 * q;
-    while e < 16 * (q + 1) {
+    for e in 16 * q..16 * (q + 1) {
         m = list_place(weight, count, size, choice, o, e, exits, m);
-        e += 1;
     }
     m
 }
@@ -97,12 +89,9 @@ pub fn list_level(
     requires { Reading size weight.now count.now choice.now o × Ample exits.old }
     ensures { Ranged size exits.new result × Lists (Leaves size weight.now count.now choice.now o) exits.new result }
 {
-    let words = words_for(size);
     let mut len = 0;
-    let mut q = 0;
-    while q < words {
+    for q in 0..words_for(size) {
         len = list_word(weight, count, size, choice, o, q, exits, len);
-        q += 1;
     }
     len
 }

@@ -4,7 +4,7 @@ ghost use Rattle.tables_costs.specs.Costs.{far};
 ghost use Rattle.unfold_exits.specs.Lists.{Ranged, exit_of, with_exit, over_exit, finishing};
 
 use crate::told::told_at;
-use tables_costs::cost::{FAR, least};
+use tables_costs::cost::FAR;
 
 // The place of exit i.
 pub fn exit_at(exits: &[u64], i: usize) -> usize
@@ -43,10 +43,8 @@ pub fn finish(
     ensures { (result ≡ finishing weight.now count.now exits.now len row) × (result ≤ far) }
 {
     let mut best = FAR;
-    let mut i = 0;
-    while i < len {
-        best = least(best, over_exit(weight, count, exits, len, size, row, i));
-        i += 1;
+    for i in 0..len {
+        best = best.min(over_exit(weight, count, exits, len, size, row, i));
     }
     best
 }

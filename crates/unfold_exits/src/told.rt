@@ -9,13 +9,11 @@ use tables_costs::cost::{FAR, step_cost};
 fn told_by(weight: u32, steps: u16) -> u64
     ensures { (result ≡ told weight steps) × (result ≤ far) }
 {
-    if HEAVIEST < weight {
-        return FAR;
+    if weight <= HEAVIEST && steps <= LONGEST {
+        step_cost(weight, steps)
+    } else {
+        FAR
     }
-    if LONGEST < steps {
-        return FAR;
-    }
-    step_cost(weight, steps)
 }
 
 // What the tables tell of the pair of places whose entry is at i.

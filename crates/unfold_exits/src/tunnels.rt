@@ -66,11 +66,8 @@ fn land_all(
     requires { Crossing net.now weight.now count.now exits.now len x × Landed net.now weight.now count.now exits.now len x 0 lands.old }
     ensures { Landed net.now weight.now count.now exits.now len x (links net.now) lands.new }
 {
-    let c = links(net);
-    let mut i = 0;
-    while i < c {
+    for i in 0..links(net) {
         land(net, weight, count, exits, len, x, i, lands);
-        i += 1;
     }
 }
 
@@ -100,12 +97,9 @@ fn list_funs(net: &[u32], lands: &[u64], x: usize, outs: &mut [u64]) -> usize
     requires { Closing net.now lands.now × Ample outs.old }
     ensures { Gathered (Unwrapping net.now x (λ u. get_or lands.now u 0)) (funs net.now) outs.new result }
 {
-    let d = funs(net);
     let mut m = 0;
-    let mut j = 0;
-    while j < d {
+    for j in 0..funs(net) {
         m = list_fun(net, lands, x, j, outs, m);
-        j += 1;
     }
     m
 }

@@ -51,9 +51,6 @@ module _ {words o : ℕ} where
             go (yes h) = inl (record { at = y.at; below = h; is = y.is })
             go (no h) = let f : y.at ≡ m = omega (arith, y.below) in inr (rw f at y.is)
 
-    pub meets_all : {L L' : List ℕ} (i m : ℕ) → i ≤ m → m ≤ i → Adds words o (MeetsOne W C O row k i) L L' → Adds words o (MeetsOne W C O row k m) L L'
-    meets_all i m h g a = let e : i ≡ m = omega arith in rw e at a
-
     pub exit_left : {L : List ℕ} (i a : ℕ) → a ≡ over_exit W C O row i → (a ≡ k → ⊥) → Adds words o (Meets W C O row k i) L L
     exit_left i a q h = adds_none (λ e y. h (q ∙ y.met))
 

@@ -50,10 +50,8 @@ fn mark_outs(
     requires { Marking size weight.now count.now outs.now len row o choice.old }
     ensures { Adds (words_for size) o (MeetsOne weight.now count.now outs.now row left len) choice.old choice.new }
 {
-    let mut i = 0;
-    while i < len {
+    for i in 0..len {
         mark_out(weight, count, outs, len, size, row, left, i, choice, o);
-        i += 1;
     }
 }
 

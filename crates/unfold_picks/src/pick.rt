@@ -7,7 +7,6 @@ ghost use Rattle.unfold_picks.specs.Look.{nothing};
 use crate::looks::{look_level, look_tunnel, record_length};
 use paper::key::step_key;
 use paper::place::Place;
-use unfold_frames::entry;
 use unfold_tries::trial::{Spot, Step};
 
 // No step: its key comes behind every other.
@@ -48,7 +47,7 @@ pub fn pick(
     if k == 0 {
         return into;
     }
-    let hidden = entry(choice, o + 1) as usize;
+    let hidden = usize::from(choice[o + 1]);
     look_level(
         net,
         weight,

@@ -1,11 +1,9 @@
-use Rattle.tables_sweeps.specs.Row.{composed}
+use Rattle.tables_sweeps.specs.Row.{carried}
+use Rattle.tables_costs.specs.Loop.{upto}
 use lib.ListN.{length}
 use mathlib.Core.Path.{◌≡◌}
-use Prim.Native.Nat.{◌-◌, ◌≤◌}
+use Prim.Native.Nat.{◌+◌}
 use Rattle.tables_spread.proofs.compose.Given as goal
 
 abbrev pub invariant-loop-q : goal.invariant-loop-q
-invariant-loop-q l = (l.q ≤ l.size) × (length l.y ≡ length l.initial.y) × (l.y ≡ composed l.weight l.count l.q l.base l.c l.initial.y)
-
-abbrev pub decreases-loop-q : goal.decreases-loop-q
-decreases-loop-q l = l.size - l.q
+invariant-loop-q l = (length l.y ≡ length l.initial.y) × (l.y ≡ upto (λ q. carried l.weight l.count l.c (l.base + q) q) l.q l.initial.y)

@@ -2,11 +2,8 @@ use Rattle.tables_sweeps.specs.Row.{going}
 use Rattle.tables_costs.specs.Loop.{upto}
 use lib.ListN.{length}
 use mathlib.Core.Path.{◌≡◌}
-use Prim.Native.Nat.{◌*◌, ◌-◌, ◌≤◌}
+use Prim.Native.Nat.{◌*◌}
 use Rattle.tables_spread.proofs.gain_all.Given as goal
 
 abbrev pub invariant-loop-r : goal.invariant-loop-r
-invariant-loop-r l = (l.r ≤ l.size) × (length l.y ≡ length l.initial.y) × (l.y ≡ upto (going l.weight l.count l.size l.stamps l.since (l.at * l.size) l.a) l.r l.initial.y)
-
-abbrev pub decreases-loop-r : goal.decreases-loop-r
-decreases-loop-r l = l.size - l.r
+invariant-loop-r l = (length l.y ≡ length l.initial.y) × (l.y ≡ upto (going l.weight l.count l.size l.stamps l.since (l.at * l.size) l.a) l.r l.initial.y)

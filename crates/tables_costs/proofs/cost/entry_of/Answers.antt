@@ -5,8 +5,8 @@ use Rattle.tables_costs.proofs.cost.entry_of.Goals as goal
 pub returns-then-k-ge-FAR : goal.returns-then-k-ge-FAR
 returns-then-k-ge-FAR c = spells_never _ c.if-k-ge-FAR.true
 
-pub returns-then-wide-k : goal.returns-then-wide-k
-returns-then-wide-k c = spells_over _ (omega arith) (omega arith)
+pub returns-then-from-k : goal.returns-then-from-k
+returns-then-from-k c = spells_over _ (omega arith) (omega arith)
 
 pub returns : goal.returns
-returns c = spells_within _ _ (omega arith) (omega arith) c.held.ensures
+returns c = spells_within _ _ (omega arith) (omega arith) (omega arith)

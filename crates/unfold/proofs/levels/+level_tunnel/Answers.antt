@@ -37,12 +37,12 @@ pub level-put-requires : goal.level-put-requires
 level-put-requires t c =
     let l = c.loop-here in
     let a = went_asks c.requires.0 l.invariant l.auto.choice l.auto.steps in
-    omega (arith, a.steps, a.fits, c.index.ensures, c.loop-here-test.true)
+    omega (arith, a.steps, a.fits, c.from.ensures, c.loop-here-test.true)
 
 pub level-returns-then-kind-eq2 : goal.level-returns-then-kind-eq2
 level-returns-then-kind-eq2 t c =
     let a = c.args.course in
-    level_closes a.end a.total a.level c.requires.0 c.loop-here.invariant (taken_as c.pick-s.ensures unwrap c.if-kind-eq2.true) (rw c.index.ensures at c.put.ensures)
+    level_closes a.end a.total a.level c.requires.0 c.loop-here.invariant (taken_as c.pick-s.ensures unwrap c.if-kind-eq2.true) (rw c.from.ensures at c.put.ensures)
 
 pub level-loop-here-smaller : goal.level-loop-here-smaller
 level-loop-here-smaller t c = omega (arith, picked_falls c.requires.0 c.pick-s.ensures.picked)
@@ -52,7 +52,7 @@ level-loop-here-preserved t c =
     let l = c.loop-here in
     let a = c.requires.0 in
     let y = taken_conv c.pick-s.ensures c.if-kind-eq1.false c.if-kind-eq2.false in
-    went_then a l.invariant (went_conv (went_asks a l.invariant l.auto.choice l.auto.steps) y (rw c.index.ensures at c.put.ensures))
+    went_then a l.invariant (went_conv (went_asks a l.invariant l.auto.choice l.auto.steps) y (rw c.from.ensures at c.put.ensures))
 
 pub level-returns : goal.level-returns
 level-returns t c =
@@ -63,7 +63,7 @@ pub tunnel-put-requires : goal.tunnel-put-requires
 tunnel-put-requires t c =
     let p = c.requires in
     let y = taken_as p.key_value.1 wrap p.key_value.0 in
-    omega (arith, p.asks.0.steps, p.asks.0.fits, c.index.ensures, picked_falls p.asks.0 y.picked)
+    omega (arith, p.asks.0.steps, p.asks.0.fits, c.from.ensures, picked_falls p.asks.0 y.picked)
 
 pub tunnel-open-requires : goal.tunnel-open-requires
 tunnel-open-requires t c =
@@ -85,4 +85,4 @@ tunnel-returns t c =
     let p = c.requires in
     let y = taken_as p.key_value.1 wrap p.key_value.0 in
     let o = c.«open» in
-    tunnel_done p.asks.0 y o.ensures.0 o.ensures.1 (rw c.index.ensures at c.put.ensures) (rw (add-one c.args.course.level) at c.level.ensures)
+    tunnel_done p.asks.0 y o.ensures.0 o.ensures.1 (rw c.from.ensures at c.put.ensures) (rw (add-one c.args.course.level) at c.level.ensures)

@@ -1,4 +1,3 @@
-use Prim.Native.Nat.{◌+◌, ◌*◌, ◌-◌, ◌≤◌}
 use mathlib.Core.Path.{◌≡◌}
 use lib.ListN.{length}
 use Rattle.unfold_exits.specs.Lists.{Gathered}
@@ -6,8 +5,4 @@ use Rattle.unfold_exits.specs.Exits.{LeavesBy}
 use Rattle.unfold_exits.proofs.levels.list_word.Given as goal
 
 abbrev pub invariant-loop-e : goal.invariant-loop-e
-invariant-loop-e l =
-    (l.e ≤ 16 * (l.q + 1)) × Gathered (LeavesBy l.size l.weight l.count l.choice l.o) l.e l.exits l.m × (length l.exits ≡ length l.initial.exits)
-
-abbrev pub decreases-loop-e : goal.decreases-loop-e
-decreases-loop-e l = 16 * (l.q + 1) - l.e
+invariant-loop-e l = Gathered (LeavesBy l.size l.weight l.count l.choice l.o) l.e l.exits l.m × (length l.exits ≡ length l.initial.exits)

@@ -1,12 +1,7 @@
 use mathlib.Core.Path.{◌≡◌}
 use Rattle.unfold_exits.specs.Lists.{over_exit}
-use Prim.Native.Nat.{◌-◌, ◌≤◌}
 use Rattle.unfold_exits.specs.Cost.{least}
 use Rattle.unfold_exits.proofs.lists.finish.Given as goal
 
 abbrev pub invariant-loop-i : goal.invariant-loop-i
-invariant-loop-i l =
-    (l.i ≤ l.len) × (l.best ≡ least (over_exit l.weight l.count l.exits l.row) l.i)
-
-abbrev pub decreases-loop-i : goal.decreases-loop-i
-decreases-loop-i l = l.len - l.i
+invariant-loop-i l = l.best ≡ least (over_exit l.weight l.count l.exits l.row) l.i

@@ -1,12 +1,7 @@
-use Prim.Native.Nat.{◌-◌, ◌≤◌}
 use mathlib.Core.Path.{◌≡◌}
 use lib.ListN.{length}
 use Rattle.unfold_exits.specs.Exits.{Landed}
 use Rattle.unfold_exits.proofs.tunnels.land_all.Given as goal
 
 abbrev pub invariant-loop-i : goal.invariant-loop-i
-invariant-loop-i l =
-    (l.i ≤ l.c) × Landed l.net l.weight l.count l.exits l.len l.x l.i l.lands × (length l.lands ≡ length l.initial.lands)
-
-abbrev pub decreases-loop-i : goal.decreases-loop-i
-decreases-loop-i l = l.c - l.i
+invariant-loop-i l = Landed l.net l.weight l.count l.exits l.len l.x l.i l.lands × (length l.lands ≡ length l.initial.lands)

@@ -1,4 +1,3 @@
-use Prim.Native.Nat.{◌-◌, ◌≤◌}
 use mathlib.Core.Path.{◌≡◌}
 use lib.ListN.{length, get_or}
 use Rattle.unfold_exits.specs.Lists.{Gathered}
@@ -6,8 +5,4 @@ use Rattle.unfold_exits.specs.Exits.{Unwrapping}
 use Rattle.unfold_exits.proofs.tunnels.list_funs.Given as goal
 
 abbrev pub invariant-loop-j : goal.invariant-loop-j
-invariant-loop-j l =
-    (l.j ≤ l.d) × Gathered (Unwrapping l.net l.x (λ u. get_or l.lands u 0)) l.j l.outs l.m × (length l.outs ≡ length l.initial.outs)
-
-abbrev pub decreases-loop-j : goal.decreases-loop-j
-decreases-loop-j l = l.d - l.j
+invariant-loop-j l = Gathered (Unwrapping l.net l.x (λ u. get_or l.lands u 0)) l.j l.outs l.m × (length l.outs ≡ length l.initial.outs)

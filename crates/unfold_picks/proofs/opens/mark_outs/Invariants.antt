@@ -1,4 +1,3 @@
-use Prim.Native.Nat.{◌-◌, ◌≤◌}
 use mathlib.Core.Path.{◌≡◌}
 use lib.ListN.{length}
 use Rattle.unfold_frames.specs.Frames.{words_for}
@@ -7,7 +6,4 @@ use Rattle.unfold_picks.proofs.opens.mark_outs.Given as goal
 
 abbrev pub invariant-loop-i : goal.invariant-loop-i
 invariant-loop-i l =
-    (l.i ≤ l.len) × Adds (words_for l.size) l.o (MeetsOne l.weight l.count l.outs l.row l.left l.i) l.initial.choice l.choice × (length l.choice ≡ length l.initial.choice)
-
-abbrev pub decreases-loop-i : goal.decreases-loop-i
-decreases-loop-i l = l.len - l.i
+    Adds (words_for l.size) l.o (MeetsOne l.weight l.count l.outs l.row l.left l.i) l.initial.choice l.choice × (length l.choice ≡ length l.initial.choice)

@@ -19,8 +19,8 @@ returns-then-k-eq0 c =
 pub overflow_add-o : goal.overflow_add-o
 overflow_add-o c = omega (arith, record_room c.requires.1 _ _ c.record_length-length.ensures.0 refl)
 
-pub entry-hidden-requires : goal.entry-hidden-requires
-entry-hidden-requires c = omega (arith, record_room c.requires.1 _ _ c.record_length-length.ensures.0 refl)
+pub bounds-choice-o : goal.bounds-choice-o
+bounds-choice-o c = omega (arith, record_room c.requires.1 _ _ c.record_length-length.ensures.0 refl)
 
 pub overflow_sub-o : goal.overflow_sub-o
 overflow_sub-o c = one_at_least _ _ c.if-k-eq0.false
@@ -31,4 +31,4 @@ look_level-requires c =
 
 pub returns : goal.returns
 returns c =
-    pick_inner c.args.k c.requires.1 _ _ _ c.record_length-length.ensures.0 refl c.requires.0 c.if-k-eq0.false c.entry-hidden.ensures.0 (rw c.nothing.ensures at c.look_level-on.ensures) c.look_tunnel-into.ensures c.look_level.ensures
+    pick_inner c.args.k c.requires.1 _ _ _ c.record_length-length.ensures.0 refl c.requires.0 c.if-k-eq0.false (omega arith) (rw c.nothing.ensures at c.look_level-on.ensures) c.look_tunnel-into.ensures c.look_level.ensures
