@@ -1,4 +1,2 @@
 pub mod Parts
-pub mod Walk
-pub mod Words
-pub mod Numbers
+pub mod Gathering

@@ -1,39 +1,59 @@
--- Parts of a file: a part split in two, a part that holds none of a byte, and that a search has one answer. Assumes nothing.
-use mathlib.Core.Path.{◌≡◌, ap}
-use mathlib.Core.Bool.{true}
-use mathlib.Core.List.{List, ◌∷◌, ◌++◌}
-use Prim.Native.Nat.{ℕ, zero, suc, ◌+◌, ◌-◌, ◌≤◌, ◌<◌}
-use native.Mathlib.Omega.{arith}
-use native.Mathlib.Nat.{le_refl, le_trans}
-use lib.ListN.{length, get_or}
-use borrow.Author.Tests.{ne_eqb}
-use Rattle.digits.specs.Read.{part}
-use Rattle.digits.proofs.Parts.{part_cons, part_empty}
-use Rattle.laws.proofs.Before.{Three, less, equal, more, three}
-use Rattle.laws.proofs.Spelling.{free}
-use Rattle.file_fields.specs.Fields.{Find}
+-- A line's fields are its parts between tabs. Assumes nothing.
+use Rattle.std.proofs.Common.{◌≡◌, ◌∙◌, refl, ap, Bool, true, false, cond, ◌&&◌, List, [], ◌∷◌, length, ℕ, ◌<◌, eqb, Option, Some, None, Bor, arith}
+use lib.Pointwise.{pointwise}
+use Rattle.std.specs.List.{slice_split, onto_first, slice_get}
+use Rattle.std.specs.Option.{unwrap_or, option_copied, option_eq}
+use Rattle.std.proofs.lemmas.Option.{unwrap_or-slice_get}
+use Rattle.paper.specs.Text.{fields, fields_on, number, spelled, same}
+use Rattle.paper.specs.File.{field}
+use Rattle.digits.specs.Read.{told}
+use Rattle.file_fields.specs.Fields.{field_of}
 
--- d bytes of a part, and the rest of it
-pub part_split : (d : ℕ) (l : List ℕ) (s t e : ℕ) → t ≡ s + d → t ≤ e → e ≤ length l → part l s e ≡ part l s t ++ part l t e
-part_split zero l s t e q h g = let f : t ≡ s = omega arith in rw (f, part_empty l s)
-part_split (suc d) l s t e q h g =
-    rw (part_cons l s e (omega arith) g, part_cons l s t (omega arith) (le_trans h g)) (ap (λ (r : List ℕ). get_or l s 0 ∷ r) (part_split d l (s + 1) t e (omega arith) h g))
-
-free_part : (d : ℕ) (l : List ℕ) (c s t : ℕ) → t ≡ s + d → t ≤ length l → ((k : ℕ) → k < t → s ≤ k → get_or l k 0 ≡ c → ⊥) → free c (part l s t) ≡ true
-unfolding free
-free_part zero l c s t e g h = let f : t ≡ s = omega arith in rw (f, part_empty l s)
-free_part (suc d) l c s t e g h =
-    rw (part_cons l s t (omega arith) g, ne_eqb (get_or l s 0) c (h s (omega arith) (le_refl s))) (free_part d l c (s + 1) t (omega arith) g (λ k p q. h k p (omega arith)))
-
--- the bytes passed in a search hold none of what was searched for
-pub find_free : (l : List ℕ) (a e c r : ℕ) → e ≤ length l → Find l a e c r → free c (part l a r) ≡ true
-find_free l a e c r g f = free_part (r - a) l c a r (omega (arith, f.low)) (le_trans f.high g) f.before
-
--- a search has one answer
-pub find_once : (l : List ℕ) (a e c r s : ℕ) → Find l a e c r → Find l a e c s → r ≡ s
-find_once l a e c r s f g = go (three r s)
+pub fields_split : (l : List ℕ) → slice_split (λ b. eqb b 9) l ≡ fields l
+unfolding fields fields_on
+fields_split [] = refl
+fields_split (b ∷ bs) = rw (fields_split bs) (go (eqb b 9) (fields bs))
   where
-    go : Three r s → r ≡ s
-    go (less h) = absurd (g.before r h f.low (f.there (omega (arith, g.high))))
-    go (equal h) = h
-    go (more h) = absurd (f.before s h g.low (g.there (omega (arith, f.high))))
+    go : (t : Bool) (fs : List (List ℕ)) → cond t ([] ∷ fs) (onto_first b fs) ≡ fields_on t b fs
+    go true fs = refl
+    go false [] = refl
+    go false (f ∷ fs) = refl
+
+field_is_get : (l : List ℕ) (k : ℕ) → unwrap_or (slice_get (fields l) k) [] ≡ field_of l k
+unfolding field
+field_is_get l k = unwrap_or-slice_get (fields l) k []
+
+there : (l : List ℕ) (k : ℕ) (f : List ℕ) → Some f ≡ slice_get (fields l) k → f ≡ field_of l k
+there l k f e = rw (← e) at (field_is_get l k)
+
+missing : (l : List ℕ) (k : ℕ) → None ≡ slice_get (fields l) k → [] ≡ field_of l k
+missing l k e = rw (← e) at (field_is_get l k)
+
+pub number_there : (l : List ℕ) (k : ℕ) (f : List ℕ) → Some f ≡ slice_get (fields l) k → told (number f) ≡ told (number (field_of l k))
+number_there l k f e = ap (λ (w : List ℕ). told (number w)) (there l k f e)
+
+pub no_number : (l : List ℕ) (k : ℕ) → None ≡ slice_get (fields l) k → None ≡ told (number (field_of l k))
+unfolding told number spelled
+no_number l k e = ap (λ (w : List ℕ). told (number w)) (missing l k e)
+
+pub ruleset numbers_there = (number_there, no_number)
+
+-- ## Words
+
+same_compared : (a b : List ℕ) → pointwise eqb a b ≡ same a b
+unfolding same
+same_compared [] [] = refl
+same_compared [] (y ∷ b) = refl
+same_compared (x ∷ a) [] = refl
+same_compared (x ∷ a) (y ∷ b) = ap (λ (t : Bool). eqb x y && t) (same_compared a b)
+
+none_same : (w : List ℕ) → 0 < length w → false ≡ same [] w
+unfolding same
+none_same [] h = absurd (omega arith)
+none_same (b ∷ w) h = refl
+
+-- field k is compared with a word; a missing one is no word
+pub compared : (l : List ℕ) (k : ℕ) (o : Option (Bor (List ℕ))) (w : Bor (List ℕ)) → option_copied o ≡ slice_get (fields l) k → 0 < length w.now
+    → option_eq (λ (x y : Bor (List ℕ)). pointwise eqb x.now y.now) o (Some w) ≡ same (field_of l k) w.now
+compared l k None w e h = none_same w.now h ∙ ap (λ (f : List ℕ). same f w.now) (missing l k e)
+compared l k (Some f) w e h = same_compared f.now w.now ∙ ap (λ (g : List ℕ). same g w.now) (there l k f.now e)

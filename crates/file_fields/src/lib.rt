@@ -1,121 +1,60 @@
-// The fields of one line of a file, found by their number: the line goes from byte a up to its LF at byte e, and the word is field 0.
+// The fields of a line, which has no LF, by their number; the word is field 0.
 #![tactic(auto)]
 
-ghost use Rattle.std.specs.Prelude.{◌≡◌, ◌+◌, ◌≤◌, ◌<◌, eqb, length, drop};
+ghost use Rattle.std.specs.Prelude.{◌≡◌, ◌==◌, ◌+◌, ◌≤◌, ◌<◌, eqb, length, position, slice_get};
+ghost use Rattle.std.specs.Option.{option_copied};
 ghost use Rattle.paper.specs.Text.{number, fields, same};
-ghost use Rattle.digits.specs.Read.{part, told};
-ghost use Rattle.file_fields.specs.Fields.{Find, fields_from, fields_after, field_at, Numbers};
+ghost use Rattle.digits.specs.Read.{told};
+ghost use Rattle.file_fields.specs.Fields.{field_of, numbers};
 
-use digits::read::{Number, read_number};
+use digits::read::read_number;
 
-// Where c first stands from a on, before e; e where it does not.
-pub fn find(file: &[u8], a: usize, e: usize, c: u8) -> usize
-    requires { (a ≤ e) × (e ≤ length file.now) }
-    ensures { Find file.now a e c result }
+// Where the byte first stands.
+pub fn find(bytes: &[u8], c: u8) -> Option<usize>
+    ensures { result ≡ position (λ b. b == c) bytes.now }
 {
-    let mut i = a;
-    while i < e {
-        if file[i] == c {
-            return i;
-        }
-        i += 1;
-    }
-    i
+    bytes.iter().position(|byte| *byte == c)
 }
 
-// Where the field after the one at s begins: past e where there is none.
-fn next_field(file: &[u8], s: usize, e: usize) -> usize
-    requires { (s ≤ e + 1) × (e < length file.now) }
-    ensures { (result ≤ e + 1) × (fields_from file.now result e ≡ drop 1 (fields_from file.now s e)) }
+// Field k, if the line has so many.
+fn field(line: &[u8], k: usize) -> Option<&[u8]>
+    ensures { option_copied result ≡ slice_get (fields line.now) k }
 {
-    if e < s {
-        return s;
-    }
-    find(file, s, e, b'\t') + 1
-}
-
-// Where field k begins: past e where there is none.
-fn field_at(file: &[u8], a: usize, e: usize, k: usize) -> usize
-    requires { (a ≤ e) × (e < length file.now) }
-    ensures { (result ≤ e + 1) × (fields_from file.now result e ≡ fields_after file.now a e k) }
-{
-    let mut s = a;
-    let mut i: usize = 0;
-    while i < k {
-        s = next_field(file, s, e);
-        i += 1;
-    }
-    s
+    line.split(|byte| *byte == b'\t').nth(k)
 }
 
 // Whether the line has just k fields.
-pub fn has_fields(file: &[u8], a: usize, e: usize, k: usize) -> bool
-    requires { (a ≤ e) × (e < length file.now) × (1 ≤ k) }
-    ensures { result ≡ eqb (length (fields (part file.now a e))) k }
+pub fn has_fields(line: &[u8], k: usize) -> bool
+    ensures { result ≡ eqb (length (fields line.now)) k }
 {
-    let last = field_at(file, a, e, k - 1);
-    if e < last {
-        return false;
-    }
-    e < next_field(file, last, e)
+    line.split(|byte| *byte == b'\t').count() == k
 }
 
 // The number in field k.
-pub fn number_at(file: &[u8], a: usize, e: usize, k: usize) -> Number
-    requires { (a ≤ e) × (e < length file.now) }
-    ensures { result ≡ told (number (field_at file.now a e k)) }
+#[tactic(auto, using(crate::proofs::Parts::numbers_there))]
+pub fn number_at(line: &[u8], k: usize) -> Option<u32>
+    ensures { result ≡ told (number (field_of line.now k)) }
 {
-    let s = field_at(file, a, e, k);
-    if e < s {
-        return Number::Misshapen;
-    }
-    let t = find(file, s, e, b'\t');
-    read_number(file, s, t)
+    read_number(field(line, k)?)
 }
 
-// The numbers in field k and on, as many as out has entries; whether each of them is one.
-pub fn numbers_at(file: &[u8], a: usize, e: usize, k: usize, out: &mut [u32]) -> bool
-    requires { (a ≤ e) × (e < length file.now) × (k + length out.old ≤ 6) }
-    ensures { Numbers file.now a e k out.new result }
+// The numbers in field k and on, as many as asked for, if each of them is one.
+#[tactic(auto, using(crate::proofs::Gathering::gathered))]
+pub fn numbers_at<const K: usize>(line: &[u8], k: usize) -> Option<[u32; K]>
+    requires { k + K ≤ 6 }
+    ensures { result ≡ numbers line.now k K }
 {
-    let mut i: usize = 0;
-    while i < out.len() {
-        let Number::Value(v) = number_at(file, a, e, k + i) else {
-            return false;
-        };
-        out[i] = v;
-        i += 1;
+    let mut out = [0; K];
+    for i in 0..K {
+        out[i] = number_at(line, k + i)?;
     }
-    true
-}
-
-// Whether the bytes from s up to t are the word.
-fn is_word(file: &[u8], s: usize, t: usize, word: &[u8]) -> bool
-    requires { (s ≤ t) × (t ≤ length file.now) }
-    ensures { result ≡ same (part file.now s t) word.now }
-{
-    if t - s != word.len() {
-        return false;
-    }
-    let mut i: usize = 0;
-    while i < word.len() {
-        if file[s + i] != word[i] {
-            return false;
-        }
-        i += 1;
-    }
-    true
+    Some(out)
 }
 
 // Whether field k is the word, which is not empty.
-pub fn field_is(file: &[u8], a: usize, e: usize, k: usize, word: &[u8]) -> bool
-    requires { (a ≤ e) × (e < length file.now) × (0 < length word.now) }
-    ensures { result ≡ same (field_at file.now a e k) word.now }
+pub fn field_is(line: &[u8], k: usize, word: &[u8]) -> bool
+    requires { 0 < length word.now }
+    ensures { result ≡ same (field_of line.now k) word.now }
 {
-    let s = field_at(file, a, e, k);
-    if e < s {
-        return false;
-    }
-    let t = find(file, s, e, b'\t');
-    is_word(file, s, t, word)
+    field(line, k) == Some(word)
 }

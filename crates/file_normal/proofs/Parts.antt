@@ -1,28 +1,25 @@
 -- A line is its word, its fields and an LF, one after another; and so long. Assumes nothing.
 use mathlib.Core.Path.{◌≡◌, refl, sym, ap, ◌∙◌}
-use mathlib.Core.List.{List, [], ◌∷◌, ◌++◌, map, append_assoc}
+use mathlib.Core.List.{List, [], ◌∷◌, ◌++◌, map, append_assoc, append-nil}
 use Prim.Native.Nat.{ℕ, zero, suc, ◌+◌, ◌*◌, ◌-◌, ◌≤◌}
-use native.Mathlib.Nat.{add-zero, zero-add, add-suc}
+use native.Mathlib.Nat.{add-zero, add-suc}
 use native.Mathlib.Omega.{arith}
 use lib.ListN.{length, get_or, take, drop, length-append}
 use lib.Seq.{drop-cons}
 use Rattle.paper.specs.Text.{decimal, tabbed, written, net_word, link_word, fun_word}
-use Rattle.paper.specs.Rooms.{laid}
 use Rattle.paper.specs.Normal.{kind_word, net_text, link_text, fun_text, texts, normal}
 use Rattle.network_records.specs.declared.Size.{Size}
 use Rattle.network_records.specs.Columns.{node, kind, x_of, y_of, fee, kind_of_code, link_at, fun_at, rows, link_rows, fun_rows, net_of}
-use Rattle.digits.specs.Write.{Put}
-use Rattle.file_normal.specs.Line.{last_fields}
-use Rattle.digits.proofs.Writing.{then}
+use Rattle.digits.specs.declared.write.Writer.{Writer}
+use Rattle.digits.specs.Write.{Wrote}
+use Rattle.digits.proofs.Writing.{wrote_then}
 
 -- ## Any line
 
--- the word, the first two fields by themselves, the other fields with the LF
-two_fields : (w f g : List ℕ) (fs : List (List ℕ)) → written w (f ∷ g ∷ fs) ≡ w ++ (9 ∷ f) ++ (9 ∷ g) ++ (tabbed fs ++ (10 ∷ []))
+-- the word, the first two fields by themselves, the other fields, the LF
+two_fields : (w f g : List ℕ) (fs : List (List ℕ)) → written w (f ∷ g ∷ fs) ≡ w ++ (9 ∷ f) ++ (9 ∷ g) ++ tabbed fs ++ (10 ∷ [])
 unfolding written
-two_fields w f g fs =
-    ap (λ (t : List ℕ). t ++ (10 ∷ [])) (field_then w f (g ∷ fs) ∙ field_then (w ++ (9 ∷ f)) g fs)
-    ∙ append_assoc (w ++ (9 ∷ f) ++ (9 ∷ g)) (tabbed fs) (10 ∷ [])
+two_fields w f g fs = ap (λ (t : List ℕ). t ++ (10 ∷ [])) (field_then w f (g ∷ fs) ∙ field_then (w ++ (9 ∷ f)) g fs)
   where
     field_then : (w f : List ℕ) (fs : List (List ℕ)) → w ++ tabbed (f ∷ fs) ≡ w ++ (9 ∷ f) ++ tabbed fs
     field_then w f fs = unfold tabbed in (sym (append_assoc w (9 ∷ f) (tabbed fs)))
@@ -32,7 +29,7 @@ two_fields w f g fs =
 module _ (n p : ℕ) where
   pub net_parts : net_text n p ≡ (110 ∷ 101 ∷ 116 ∷ []) ++ (9 ∷ decimal n) ++ (9 ∷ decimal p) ++ (10 ∷ [])
   unfolding net_text net_word tabbed
-  net_parts = two_fields net_word (decimal n) (decimal p) []
+  net_parts = two_fields net_word (decimal n) (decimal p) [] ∙ ap (λ (t : List ℕ). t ++ (10 ∷ [])) (append-nil (net_word ++ (9 ∷ decimal n) ++ (9 ∷ decimal p)))
 
   pub net_length : length (net_text n p) ≡ 6 + length (decimal n) + length (decimal p)
   net_length = ap length net_parts ∙ simp length-append (omega arith)
@@ -49,18 +46,18 @@ taken_from (suc k) l a i h =
 taken : (k : ℕ) (l : List ℕ) (a e : ℕ) → e - a ≡ k → a + k ≤ length l → take (e - a) (drop a l) ≡ rows (λ j. get_or l (a + j) 0) 0 k
 taken k l a e q h = rw q (rw (add-zero a) at (taken_from k l a 0 (omega arith)))
 
-pub rest_length : (l : List ℕ) (a e : ℕ) → length (last_fields l a e) ≡ length (tabbed (map decimal (take (e - a) (drop a l)))) + 1
-unfolding last_fields
-rest_length l a e = length-append (tabbed (map decimal (take (e - a) (drop a l)))) (10 ∷ [])
+-- the numbers from a up to e, as a line's fields
+abbrev pub fields_in : List ℕ → ℕ → ℕ → List ℕ
+fields_in l a e = tabbed (map decimal (take (e - a) (drop a l)))
 
 -- ## A link's line
 
 module _ (ls : List ℕ) (i : ℕ) (h : i * 4 + 4 ≤ length ls) where
-  pub link_parts : link_text (link_at ls i) ≡ (108 ∷ 105 ∷ 110 ∷ 107 ∷ []) ++ last_fields ls (i * 4) (i * 4 + 4)
-  unfolding link_text link_at written link_word rows last_fields
+  pub link_parts : link_text (link_at ls i) ≡ (108 ∷ 105 ∷ 110 ∷ 107 ∷ []) ++ fields_in ls (i * 4) (i * 4 + 4) ++ (10 ∷ [])
+  unfolding link_text link_at written link_word rows
   link_parts = rw (taken 4 ls (i * 4) (i * 4 + 4) (omega arith) h, add-zero (i * 4))
 
-  pub link_length : length (link_text (link_at ls i)) ≡ 4 + length (last_fields ls (i * 4) (i * 4 + 4))
+  pub link_length : length (link_text (link_at ls i)) ≡ 5 + length (fields_in ls (i * 4) (i * 4 + 4))
   link_length = ap length link_parts ∙ simp length-append (omega arith)
 
 -- ## A function's line
@@ -74,14 +71,14 @@ module _ (fs : List ℕ) (j : ℕ) (h : j * 5 + 5 ≤ length fs) where
       taken 3 fs (j * 5 + 2) (j * 5 + 5) (omega arith) (omega arith) ∙ rw (add-zero (j * 5 + 2), y, w)
 
   pub fun_parts : fun_text (fun_at fs j)
-      ≡ (102 ∷ 117 ∷ 110 ∷ []) ++ (9 ∷ decimal (node fs j)) ++ (9 ∷ kind_word (kind_of_code (kind fs j))) ++ last_fields fs (j * 5 + 2) (j * 5 + 5)
-  unfolding fun_text fun_at fun_word last_fields
+      ≡ (102 ∷ 117 ∷ 110 ∷ []) ++ (9 ∷ decimal (node fs j)) ++ (9 ∷ kind_word (kind_of_code (kind fs j))) ++ fields_in fs (j * 5 + 2) (j * 5 + 5) ++ (10 ∷ [])
+  unfolding fun_text fun_at fun_word
   fun_parts =
       rw last_numbers
       (two_fields fun_word (decimal (node fs j)) (kind_word (kind_of_code (kind fs j))) (decimal (x_of fs j) ∷ decimal (y_of fs j) ∷ decimal (fee fs j) ∷ []))
 
   pub fun_length : length (fun_text (fun_at fs j))
-      ≡ 5 + length (decimal (node fs j)) + length (kind_word (kind_of_code (kind fs j))) + length (last_fields fs (j * 5 + 2) (j * 5 + 5))
+      ≡ 6 + length (decimal (node fs j)) + length (kind_word (kind_of_code (kind fs j))) + length (fields_in fs (j * 5 + 2) (j * 5 + 5))
   fun_length = ap length fun_parts ∙ simp length-append (omega arith)
 
 -- ## The whole file
@@ -95,6 +92,6 @@ module _ (z : Size) (ls fs : List ℕ) where
   file_length = ap length file_parts ∙ simp length-append
 
   -- the three parts, written one after another
-  pub file_put : {t u v w : List ℕ} {i j k : ℕ} → Put t u 0 i (net_text z.nodes z.protocols) → Put u v i j (texts link_text (link_rows z.links ls)) → Put v w j k (texts fun_text (fun_rows z.funs fs))
-      → (k ≡ length (normal (net_of z ls fs))) × (w ≡ laid t 0 (normal (net_of z ls fs)))
-  file_put a b e = let r = then (then a b) e in rw file_parts (r.next ∙ zero-add (length (net_text z.nodes z.protocols ++ texts link_text (link_rows z.links ls) ++ texts fun_text (fun_rows z.funs fs))), r.text)
+  pub file_wrote : {u v w x : Writer} → Wrote u v (net_text z.nodes z.protocols) → Wrote v w (texts link_text (link_rows z.links ls)) → Wrote w x (texts fun_text (fun_rows z.funs fs))
+      → Wrote u x (normal (net_of z ls fs))
+  file_wrote a b e = rw file_parts (wrote_then (wrote_then a b) e)

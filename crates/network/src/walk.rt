@@ -28,7 +28,8 @@ impl<'a> Network<'a> {
     // The links that leave node v.
     pub fn links_of(&self, v: usize) -> Range<usize>
         requires { v < nodes self.now }
-        ensures { Stretch (leaves self.now v) (links self.now) result.start result.end }
+        ensures stretch { Stretch (leaves self.now v) (links self.now) result.start result.end }
+        ensures arranged { Arranged self.now }
     {
         self.stretch(LINK_STARTS, v)
     }
@@ -36,7 +37,8 @@ impl<'a> Network<'a> {
     // The functions of node v.
     pub fn funs_of(&self, v: usize) -> Range<usize>
         requires { v < nodes self.now }
-        ensures { Stretch (stands self.now v) (funs self.now) result.start result.end }
+        ensures stretch { Stretch (stands self.now v) (funs self.now) result.start result.end }
+        ensures arranged { Arranged self.now }
     {
         self.stretch(FUN_STARTS, v)
     }

@@ -1,3 +1,4 @@
 pub mod Grouping
 pub mod Counting
 pub mod Arrangement
+pub mod Records

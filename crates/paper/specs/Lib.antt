@@ -8,5 +8,6 @@ pub mod Normal
 pub mod Trace
 pub mod Rooms
 pub mod Outcome
+pub mod Answers
 pub mod Program
 pub mod Examples

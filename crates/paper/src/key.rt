@@ -12,14 +12,10 @@ pub fn step_key(link: u16, kind: u16, x: u16, y: u16) -> [u16; 4]
 pub fn key_before(a: [u16; 4], b: [u16; 4]) -> bool
     ensures { result ≡ before a b }
 {
-    let mut i: usize = 0;
-    while i < 4 {
-        let x = a[i];
-        let y = b[i];
-        if x != y {
-            return x < y;
+    for i in 0..4 {
+        if a[i] != b[i] {
+            return a[i] < b[i];
         }
-        i += 1;
     }
     false
 }

@@ -4,9 +4,9 @@
 ghost use Rattle.std.specs.Prelude.{[], ◌∷◌, ◌≤◌, ◌<◌, OnOk, take, length};
 ghost use Rattle.std.specs.Io.KnownBytes.{Consumes, IsAtEnd};
 ghost use Rattle.paper.specs.Text.{decimal, written};
-ghost use Rattle.digits.specs.Write.{Put};
+ghost use Rattle.digits.specs.Write.{Holds, Wrote};
 
-use digits::write::{put_byte, put_field, put_word};
+use digits::write::Writer;
 use std::io::Read;
 use std::rt::Files;
 use std::{fs, io};
@@ -43,22 +43,26 @@ pub fn load_file(rt: &impl Files, room: &mut [u8]) -> usize
     }
 }
 
-// A word of at most seven letters, an outcome's number and a line, into the front of a room that holds any such line.
-fn put_reply(out: &mut [u8], word: &[u8], number: u32, line: u32) -> usize
-    requires { (length word.now ≤ 7) × (50 ≤ length out.old) }
-    ensures put { Put out.old out.new 0 result (written word.now (decimal number ∷ decimal line ∷ [])) }
-    ensures upper_bound { result ≤ length out.new }
+// A word, an outcome's number and a line.
+#[tactic(auto, using(crate::proofs::Replies::reply_length))]
+fn put_reply(w: &mut Writer, word: &[u8], number: u32, line: u32)
+    requires { Holds w.old (written word.now (decimal number ∷ decimal line ∷ [])) }
+    ensures { Wrote w.old w.new (written word.now (decimal number ∷ decimal line ∷ [])) }
 {
-    let i = put_word(out, 0, word);
-    let i = put_field(out, i, number);
-    let i = put_field(out, i, line);
-    put_byte(out, i, b'\n')
+    w.word(word);
+    w.field(number);
+    w.field(line);
+    w.byte(b'\n');
 }
 
+// The word has at most seven letters, so that the room holds any such line.
+#[tactic(auto, using(crate::proofs::Replies::reply_fits))]
 pub fn write_reply(rt: &impl Print, word: &[u8], number: u32, line: u32) -> io::Result<()>
     requires { length word.now ≤ 7 }
 {
     let mut reply = [0u8; 64];
-    let r = put_reply(&mut reply, word, number, line);
-    rt.write_all(&reply[0..r])
+    let mut w = Writer::new(&mut reply);
+    put_reply(&mut w, word, number, line);
+    let length = w.written();
+    rt.write_all(&reply[..length])
 }

@@ -5,36 +5,25 @@ ghost use Rattle.tables_sweeps.specs.Sweep.{cleared, diagonal};
 ghost use Rattle.tables_spread.specs.Asked.{Roomy};
 
 use paper::limits::NEVER_MARK;
-use tables_costs::entry::{Entry, lower, put, row_of};
+use tables_costs::entry::{Entry, lower, row_of};
 
 // The first m entries say that there is no route.
 fn clear(weight: &mut [u32], count: &mut [u16], m: usize)
     requires { (m ≤ length weight.old) × (m ≤ length count.old) }
     ensures { cells weight.new count.new false ≡ cleared m (cells weight.old count.old false) }
 {
-    let mut i = 0;
-    while i < m {
-        put(
-            weight,
-            count,
-            i,
-            Entry {
-                weight: NEVER_MARK,
-                count: 0,
-            },
-        );
-        i += 1;
-    }
+    weight[..m].fill(NEVER_MARK);
+    count[..m].fill(0);
 }
 
 // The entries of each place with itself.
+#[tactic(auto, using(tables_sweeps::proofs::Loops::turns), unfolding(tables_sweeps::specs::Sweep::diagonal))]
 fn stay(weight: &mut [u32], count: &mut [u16], size: usize) -> bool
     requires { Roomy size weight.old count.old }
     ensures { cells weight.new count.new result ≡ diagonal size (cells weight.old count.old false) }
 {
     let mut any = false;
-    let mut k = 0;
-    while k < size {
+    for k in 0..size {
         any = lower(
             weight,
             count,
@@ -45,7 +34,6 @@ fn stay(weight: &mut [u32], count: &mut [u16], size: usize) -> bool
             },
             any,
         );
-        k += 1;
     }
     any
 }

@@ -1,5 +1,5 @@
 -- What the proofs of the steps cite: one law for each function, over plain variables. Assumes nothing.
-use Prim.Native.Nat.{ℕ, ◌+◌, ◌*◌}
+use Prim.Native.Nat.{ℕ}
 use mathlib.Core.Path.{◌≡◌}
 use mathlib.Core.Bool.{true, false}
 use mathlib.Core.List.{List}
@@ -26,6 +26,3 @@ module _ (g : List ℕ) (v k x j : ℕ) (a : List ℕ) where
   pub not_served : suits g v k x j ≡ false → serving g v k x j a ≡ a
   unfolding serving
   not_served e = rw e
-
-pub stepped : (place r w k fee toll : ℕ) (a a' : List ℕ) → r ≡ place → w ≡ fee + toll → k ≡ w * 65536 + 1 → a' ≡ lower_to r k a → a' ≡ lower_to place ((fee + toll) * 65536 + 1) a
-stepped place r w k fee toll a a' b d e h = rw (b, e, d) at h

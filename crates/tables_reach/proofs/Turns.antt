@@ -11,7 +11,7 @@ use Rattle.network.specs.Network.{links, funs, places, from, node, kind, x_of, y
 use Rattle.network.specs.Arranged.{Arranged}
 use Rattle.network.specs.Next.{suits, Next}
 use Rattle.tables_costs.specs.Costs.{far, lower_to, blank}
-use Rattle.tables_sweeps.specs.Row.{onward, onwards, steps, closing, closings, landing, landings, inside, tunnels, reach}
+use Rattle.tables_sweeps.specs.Row.{onward, onwards, steps, closing, closings, landing, landings, inside, tunnels}
 use Rattle.tables_sweeps.proofs.Loops.{upto_none}
 use Rattle.tables_reach.proofs.Crossings.{not_served}
 
@@ -23,10 +23,6 @@ far_blank : (m i : ℕ) → i < m → leb far (get_or (blank m) i 0) ≡ true
 far_blank m i h = rw (blank_far m i h)
 
 module _ (g W C : List ℕ) (v x : ℕ) where
-  pub entered : (size : ℕ) (a y y' : List ℕ) → a ≡ steps g v 1 x (blank 1024) → size ≡ places g → y' ≡ onwards W C size a y → y' ≡ inside g W C v x y
-  unfolding inside
-  entered size a y y' e s f = rw (← e, ← s) f
-
   pub passed : (exits ends a a' : List ℕ) → exits ≡ inside g W C v x (blank 1024) → ends ≡ closings g x exits (blank 256) → a' ≡ landings g x ends a
       → a' ≡ tunnels g W C v x a
   unfolding tunnels
@@ -54,7 +50,3 @@ module _ (g W C : List ℕ) (v x : ℕ) where
 
       no_landings : landings g x (blank 256) a ≡ a
       no_landings = upto_none _ (links g) a (λ i h. rw (far_blank 256 (from g i) (omega (arith, known.valid.link_from i h, known.valid.nodes))))
-
-  pub reached_all : (a b d : List ℕ) → b ≡ steps g v 0 x a → d ≡ tunnels g W C v x b → d ≡ reach g W C v x a
-  unfolding reach
-  reached_all a b d e f = rw (← e) f

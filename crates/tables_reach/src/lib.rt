@@ -19,6 +19,7 @@ mod steps;
 mod unwraps;
 
 // Into the tunnels that begin at a place, and on inside them.
+#[tactic(auto, unfolding(tables_sweeps::specs::Row::inside, tables_costs::specs::Costs::blank))]
 fn enter(net: &[u32], weight: &[u32], count: &[u16], at: Place, exits: &mut [u64])
     requires { Arranged net.now × Within net.now at × Roomy (places net.now) weight.now count.now × (places net.now ≤ length exits.old) }
     ensures { exits.new ≡ inside net.now weight.now count.now at.node at.protocol exits.old }
@@ -44,6 +45,7 @@ fn pass(net: &[u32], weight: &[u32], count: &[u16], at: Place, a: &mut [u64])
 }
 
 // What it takes to get from a place to each place by one step or one tunnel.
+#[tactic(auto, unfolding(tables_sweeps::specs::Row::reach))]
 pub fn reach_all(net: &[u32], weight: &[u32], count: &[u16], at: Place, a: &mut [u64])
     requires { Arranged net.now × Within net.now at × Roomy (places net.now) weight.now count.now × (places net.now ≤ length a.old) }
     ensures { a.new ≡ reach net.now weight.now count.now at.node at.protocol a.old }

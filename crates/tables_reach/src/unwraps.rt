@@ -8,7 +8,7 @@ use network::record::{fun_node, fun_weight, fun_y, link_from, link_to, link_weig
 use network::size::{funs, links, number_of};
 use network::walk::is_for;
 use paper::place::Place;
-use tables_costs::cost::{FAR, cost_there, lower_to, step_cost};
+use tables_costs::cost::{FAR, lower_to, step_cost};
 
 // The number of the place where function j unwraps.
 fn exit_of(net: &[u32], j: usize) -> usize
@@ -23,6 +23,7 @@ fn exit_of(net: &[u32], j: usize) -> usize
 }
 
 // Function j, where it unwraps what hides x at an exit that something gets to.
+#[tactic(auto, unfolding(tables_sweeps::specs::Row::closing))]
 fn close(net: &[u32], j: usize, x: usize, exits: &[u64], ends: &mut [u64])
     requires { Arranged net.now × (j < funs net.now) × (places net.now ≤ length exits.now) × (nodes net.now ≤ length ends.old) }
     ensures { ends.new ≡ closing net.now x exits.now j ends.old }
@@ -30,22 +31,20 @@ fn close(net: &[u32], j: usize, x: usize, exits: &[u64], ends: &mut [u64])
     if !is_for(net, j, 2, x) {
         return;
     }
-    let k = cost_there(exits, exit_of(net, j));
+    let k = exits[exit_of(net, j)];
     if FAR <= k {
         return;
     }
     lower_to(ends, fun_node(net, j), k + step_cost(fun_weight(net, j), 1));
 }
 
+#[tactic(auto, using(tables_sweeps::proofs::Loops::turns), unfolding(tables_sweeps::specs::Row::closings))]
 pub fn close_all(net: &[u32], x: usize, exits: &[u64], ends: &mut [u64])
     requires { Arranged net.now × (places net.now ≤ length exits.now) × (nodes net.now ≤ length ends.old) }
     ensures { ends.new ≡ closings net.now x exits.now ends.old }
 {
-    let end = funs(net);
-    let mut j = 0;
-    while j < end {
+    for j in 0..funs(net) {
         close(net, j, x, exits, ends);
-        j += 1;
     }
 }
 
@@ -62,12 +61,13 @@ fn land_of(net: &[u32], i: usize, x: usize) -> usize
 }
 
 // Link i, from a node where a tunnel has been closed.
+
 fn land(net: &[u32], i: usize, x: usize, ends: &[u64], a: &mut [u64])
     requires arranged { Arranged net.now × (i < links net.now) × (x < protocols net.now) }
     requires net_in_bounds { (nodes net.now ≤ length ends.now) × (places net.now ≤ length a.old) }
     ensures { a.new ≡ landing net.now x ends.now i a.old }
 {
-    let k = cost_there(ends, link_from(net, i));
+    let k = ends[link_from(net, i)];
     if FAR <= k {
         return;
     }
@@ -76,14 +76,12 @@ fn land(net: &[u32], i: usize, x: usize, ends: &[u64], a: &mut [u64])
     lower_to(a, there, over);
 }
 
+#[tactic(auto, using(tables_sweeps::proofs::Loops::turns), unfolding(tables_sweeps::specs::Row::landings))]
 pub fn land_all(net: &[u32], x: usize, ends: &[u64], a: &mut [u64])
     requires { Arranged net.now × (x < protocols net.now) × (nodes net.now ≤ length ends.now) × (places net.now ≤ length a.old) }
     ensures { a.new ≡ landings net.now x ends.now a.old }
 {
-    let end = links(net);
-    let mut i = 0;
-    while i < end {
+    for i in 0..links(net) {
         land(net, i, x, ends, a);
-        i += 1;
     }
 }

@@ -1,9 +1,12 @@
--- The walk stands at the last of k fields, and there is no field behind it. Assumes nothing.
-use Rattle.file_fields.proofs.Walk.{too_few, just_enough}
+-- The fields are the parts between tabs. Assumes nothing.
+use Rattle.std.proofs.Common.{rules, tests, ap, ℕ, eqb}
+use Rattle.std.proofs.lemmas.Iterator.Consumers.{count_from_yields_List}
+use Rattle.std.proofs.lemmas.Iterator.Splits.{YieldsList-from_slice_split}
+use Rattle.file_fields.proofs.Parts.{fields_split}
 use Rattle.file_fields.proofs.has_fields.Goals as goal
 
-pub returns-then-e-last : goal.returns-then-e-last
-returns-then-e-last c = too_few _ _ _ _ _ c.requires.2 c.if-e-last.true c.field_at-last.ensures.1
-
 pub returns : goal.returns
-returns c = just_enough _ _ _ _ _ _ c.requires.2 c.if-e-last.false c.field_at-last.ensures.1 c.next_field.ensures.1
+returns c =
+    let s = c.split.ensures in
+    rw (← fields_split c.args.line.now)
+    (ap (λ (n : ℕ). eqb n c.args.k) (count_from_yields_List _ _ c.count.ensures.ran (YieldsList-from_slice_split _ (λ b. eqb b 9) _ s.rest s.done s.closure (λ x b q k. search (rules, tests)))))

@@ -1,7 +1,7 @@
 use Rattle.network.proofs.Walks.{funs_stretch}
 use Rattle.network.proofs.Network.funs_of.Goals as goal
 
-pub returns : goal.returns
-returns c =
+pub returns-clause-stretch : goal.returns-clause-stretch
+returns-clause-stretch c =
     let s = c.stretch.ensures in
     funs_stretch _ _ s.arranged c.requires _ _ s.from s.to

@@ -6,11 +6,11 @@ use Rattle.network.proofs.Walks.{before_own, own_is, past_own}
 use Rattle.network.proofs.Network.next_fun.Goals as goal
 
 pub loop-k-init : goal.loop-k-init
-loop-k-init c = λ i l h. before_own _ _ _ _ _ _ c.funs_of-own.ensures i (omega (arith, c.max-k.ensures))
+loop-k-init c = λ i l h. before_own _ _ _ _ _ _ c.funs_of-own.ensures.stretch i (omega (arith, c.max-k.ensures))
 
 pub returns-then-is_for : goal.returns-then-is_for
 returns-then-is_for c =
-    let own = c.funs_of-own.ensures in
+    let own = c.funs_of-own.ensures.stretch in
     record {
       from_here = omega (arith, c.max-k.ensures, c.loop-k.auto.k);
       at_most = omega (arith, own.within, c.loop-k-test.true);
@@ -22,7 +22,7 @@ pub loop-k-preserved : goal.loop-k-preserved
 loop-k-preserved c =
     let k = c.loop-k.k in
     below_more _ _ c.loop-k.invariant
-    (λ g. own_is _ _ _ _ _ _ c.funs_of-own.ensures k _ (omega (arith, c.max-k.ensures, c.loop-k.auto.k)) c.loop-k-test.true c.is_for.ensures ∙ c.if-is_for.false)
+    (λ g. own_is _ _ _ _ _ _ c.funs_of-own.ensures.stretch k _ (omega (arith, c.max-k.ensures, c.loop-k.auto.k)) c.loop-k-test.true c.is_for.ensures ∙ c.if-is_for.false)
 
 pub returns : goal.returns
 returns c =
@@ -35,4 +35,4 @@ returns c =
   where
     go : (i : ℕ) → c.args.j ≤ i → i < funs c.args.self.now → Dec (i < c.loop-k.k) → suits c.args.self.now c.args.v c.args.kind c.args.x i ≡ false
     go i h l (yes m) = c.loop-k.invariant i m h
-    go i h l (no m) = past_own _ _ _ _ _ _ c.funs_of-own.ensures i (omega (arith, c.loop-k-test.false)) l
+    go i h l (no m) = past_own _ _ _ _ _ _ c.funs_of-own.ensures.stretch i (omega (arith, c.loop-k-test.false)) l

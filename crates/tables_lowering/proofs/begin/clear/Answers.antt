@@ -1,19 +1,16 @@
+use Prim.Native.Nat.{◌≤◌}
 use native.Mathlib.Omega.{arith}
-use borrow.Author.Rules.{rules}
-use Rattle.tables_lowering.proofs.Turns.{clearing}
-use Rattle.tables_sweeps.specs.Sweep.{cleared}
-use Rattle.tables_costs.specs.Loop.{upto}
 use mathlib.Core.Path.{◌≡◌}
+use lib.ListN.{length, replicate}
+use Rattle.std.proofs.lemmas.List.{length-take-le}
+use Rattle.tables_lowering.proofs.Clearing.{cleared_is}
 use Rattle.tables_lowering.proofs.begin.clear.Goals as goal
-
-pub loop-i-init : goal.loop-i-init
-unfolding cleared upto
-loop-i-init c = search rules
-
-pub loop-i-preserved : goal.loop-i-preserved
-loop-i-preserved c = (search rules, search rules, search rules, clearing _ _ _ _ _ _ _ c.loop-i.invariant.3 c.put.ensures.0 c.put.ensures.1)
 
 pub returns : goal.returns
 returns c =
-    let e : c.loop-i.i ≡ c.args.m = omega arith in
-    rw e at c.loop-i.invariant.3
+    let a = c.args in
+    let in_weight : a.m ≤ length a.weight.now = omega arith in
+    let in_count : a.m ≤ length a.count.now = omega arith in
+    let w : c.fill.new.self ≡ replicate a.m 4294967295 = rw length-take-le at (c.fill.ensures.after (λ y e. e)) in
+    let s : c.fill-2.new.self ≡ replicate a.m 0 = rw length-take-le at (c.fill-2.ensures.after (λ y e. e)) in
+    rw (w, s, cleared_is)

@@ -3,11 +3,7 @@ use Rattle.tables_costs.specs.Cells.{cells}
 use Rattle.tables_costs.specs.Loop.{upto}
 use lib.ListN.{length}
 use mathlib.Core.Path.{◌≡◌}
-use Prim.Native.Nat.{◌-◌, ◌≤◌}
 use Rattle.tables_lowering.proofs.merge.merge.Given as goal
 
 abbrev pub invariant-loop-q : goal.invariant-loop-q
-invariant-loop-q l = (l.q ≤ l.size) × (length l.weight ≡ length l.initial.weight) × (length l.count ≡ length l.initial.count) × (cells l.weight l.count l.any ≡ upto (merging l.base l.y) l.q (cells l.initial.weight l.initial.count l.initial.any))
-
-abbrev pub decreases-loop-q : goal.decreases-loop-q
-decreases-loop-q l = l.size - l.q
+invariant-loop-q l = (length l.weight ≡ length l.initial.weight) × (length l.count ≡ length l.initial.count) × (cells l.weight l.count l.any ≡ upto (merging l.base l.y) l.q (cells l.initial.weight l.initial.count l.initial.any))
