@@ -18,13 +18,17 @@ pub record Left (d : List ℕ) (i : ℕ) (s : List ℕ) (e : List ℕ) (j : ℕ)
 abbrev pub Holds : Writer → List ℕ → Type 0
 Holds w s = w.at + length s ≤ length w.out.now
 
+-- the writer w is now v, which writes into the same room
+abbrev pub SameRoom : Writer → Writer → Type 0
+SameRoom w v = v.out.ghost_name ≡ w.out.ghost_name
+
 -- the writer w is now v: into the same room it wrote the text s
 pub record Wrote (w v : Writer) (s : List ℕ) : Type 0 where
-  pub room : v.out.ghost_name ≡ w.out.ghost_name
+  pub room : SameRoom w v
   pub size : length v.out.now ≡ length w.out.now
   pub put : Put w.out.now v.out.now w.at v.at s
 
 -- the writer w is now v: of the text s, which goes into the same room, t is left to write
 pub record Leaves (w v : Writer) (s t : List ℕ) : Type 0 where
-  pub room : v.out.ghost_name ≡ w.out.ghost_name
+  pub room : SameRoom w v
   pub left : Left w.out.now w.at s v.out.now v.at t

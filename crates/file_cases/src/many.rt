@@ -1,101 +1,74 @@
 // Files too large to write out: of 65,536 bytes and one more, and with 1,024 records and one more.
-ghost use Rattle.std.specs.Prelude.{◌≤◌, length};
+ghost use Rattle.digits.specs.Write.{SameRoom};
 
-use digits::write::{put_number, put_word, width};
+use digits::write::{Writer, width};
 use std::io;
 
 // The text, where there is room for it.
-fn text(out: &mut [u8], at: usize, s: &[u8]) -> usize
-    requires { at ≤ length out.old }
-    ensures { result ≤ length out.new }
+fn text(w: &mut Writer, s: &[u8])
+    ensures { SameRoom w.old w.new }
 {
-    if out.len() - at < s.len() {
-        return at;
+    if s.len() <= w.space() {
+        w.word(s);
     }
-    put_word(out, at, s)
 }
 
 // The text and a number, where there is room for them.
-fn numbered(out: &mut [u8], at: usize, s: &[u8], n: u32) -> usize
-    requires { at ≤ length out.old }
-    ensures { result ≤ length out.new }
+fn numbered(w: &mut Writer, s: &[u8], n: u32)
+    ensures { SameRoom w.old w.new }
 {
-    let a = text(out, at, s);
-    if out.len() - a < width(n) {
-        return a;
+    text(w, s);
+    if width(n) <= w.space() {
+        w.number(n);
     }
-    put_number(out, a, n)
 }
 
-fn link(out: &mut [u8], at: usize, l: u32) -> usize
-    requires { at ≤ length out.old }
-    ensures { result ≤ length out.new }
+fn link(w: &mut Writer, l: u32)
+    ensures { SameRoom w.old w.new }
 {
-    let a = numbered(out, at, b"link\t", l);
-    text(out, a, b"\t255\t0\t1\n")
+    numbered(w, b"link\t", l);
+    text(w, b"\t255\t0\t1\n");
 }
 
 // The function that i stands for among 256 nodes and 4 pairs of two protocols.
-fn function(out: &mut [u8], at: usize, i: u32) -> usize
-    requires { at ≤ length out.old }
-    ensures { result ≤ length out.new }
+fn function(w: &mut Writer, i: u32)
+    ensures { SameRoom w.old w.new }
 {
-    let a = numbered(out, at, b"fun\t", i / 4 % 256);
-    let b = numbered(out, a, b"\tconv\t", i / 2 % 2);
-    let c = numbered(out, b, b"\t", i % 2);
-    text(out, c, b"\t1000000000\n")
+    numbered(w, b"fun\t", i / 4 % 256);
+    numbered(w, b"\tconv\t", i / 2 % 2);
+    numbered(w, b"\t", i % 2);
+    text(w, b"\t1000000000\n");
 }
 
-// Links of the numbers below n, the highest first.
-fn links(out: &mut [u8], at: usize, n: u32) -> usize
-    requires { at ≤ length out.old }
-    ensures { result ≤ length out.new }
+// The net line, links of the numbers below c, the highest first, d functions, and one line more.
+fn records(w: &mut Writer, c: u32, d: u32, more: &[u8])
+    ensures { SameRoom w.old w.new }
 {
-    let mut i = n;
-    let mut e = at;
-    while 0 < i {
-        i -= 1;
-        e = link(out, e, i);
+    text(w, b"net\t256\t2\n");
+    for l in (0..c).rev() {
+        link(w, l);
     }
-    e
-}
-
-fn functions(out: &mut [u8], at: usize, n: u32) -> usize
-    requires { at ≤ length out.old }
-    ensures { result ≤ length out.new }
-{
-    let mut i: u32 = 0;
-    let mut e = at;
-    while i < n {
-        e = function(out, e, i);
-        i += 1;
+    for i in 0..d {
+        function(w, i);
     }
-    e
+    text(w, more);
 }
 
 fn sized(rt: &impl Print, name: &[u8], out: &mut [u8], n: usize) -> io::Result<()> {
     if n <= out.len() {
-        crate::one(rt, name, &out[0..n])?;
+        crate::one(rt, name, &out[..n])?;
     }
     Ok(())
 }
 
-fn fill(out: &mut [u8]) {
-    let mut i: usize = 0;
-    while i < out.len() {
-        out[i] = b'x';
-        i += 1;
-    }
-}
-
 pub fn large(rt: &impl Print, out: &mut [u8]) -> io::Result<()> {
-    fill(out);
-    text(out, 0, b"net\t1\t1\n");
+    out.fill(b'x');
+    text(&mut Writer::new(out), b"net\t1\t1\n");
     sized(rt, b"65536 bytes", out, 65536)?;
     sized(rt, b"65537 bytes", out, 65537)
 }
 
-// c links and d functions, and one line more.
+// The records, told.
 fn counted(
     rt: &impl Print,
     name: &[u8],
@@ -104,11 +77,10 @@ fn counted(
     d: u32,
     more: &[u8],
 ) -> io::Result<()> {
-    let a = text(out, 0, b"net\t256\t2\n");
-    let b = links(out, a, c);
-    let e = functions(out, b, d);
-    let f = text(out, e, more);
-    crate::one(rt, name, &out[0..f])
+    let mut w = Writer::new(out);
+    records(&mut w, c, d, more);
+    let length = w.written();
+    crate::one(rt, name, &out[..length])
 }
 
 pub fn link_records(rt: &impl Print, out: &mut [u8]) -> io::Result<()> {

@@ -9,12 +9,21 @@ use native.Mathlib.Nat.{add-zero}
 use lib.Dec.{leb}
 use lib.ListN.{length, get_or}
 use borrow.Author.Tests.{leb-false}
-use Rattle.paper.specs.Net.{before, code, Link, link, Fun, fun, Net, net}
+use Rattle.std.specs.Prelude.{Result, Ok, Err, OnOk}
+use Rattle.paper.specs.declared.fault.Fault.{Fault}
+use Rattle.paper.specs.declared.fault.Fault.TheVariants.{GivenAlready, TooMany}
+use Rattle.paper.specs.Net as net
+use Rattle.paper.specs.Net.{before, code, Net, net}
 use Rattle.paper.specs.File.{link_key, fun_key, insert, given, link_fits, fun_fits, link_line, fun_line, bad, good, put}
 use Rattle.laws.specs.Sets.{Mem}
 use Rattle.laws.proofs.Before.{Test, holds, fails, test}
 use Rattle.laws.proofs.Insert.{Sorted, insert_first, insert_later, insert_nil, sorted_insert, mem_insert}
 use Rattle.network_records.specs.Columns.{rows, kind_of_code, link_at, fun_at, link_rows, fun_rows}
+use Rattle.network_records.specs.Kinds.{named, link_of, fun_of}
+use Rattle.network_records.specs.declared.kind.Kind.{Kind}
+use Rattle.network_records.specs.declared.kind.Kind.TheVariants.{Conv, Wrap, Unwrap}
+use Rattle.network_records.specs.declared.record.Link.{Link}
+use Rattle.network_records.specs.declared.record.Fun.{Fun}
 use Rattle.network_records.proofs.Rows.{length_rows}
 use Rattle.file_rows.specs.Rows.{entries, row_at, rows_of, key_of, Addition}
 use Rattle.file_rows.proofs.Entries.{get_d_entries}
@@ -49,25 +58,29 @@ module _ {A B : Type 0} (h : A → B) (own : A → List ℕ) (key : B → List �
 
 -- ## The row s on top of n rows of d, which becomes e
 
-numbered : (a b : Bool) (r : ℕ) → r ≡ cond a 4 (cond b 5 0) → r ≡ 0 → (a ≡ false) × (b ≡ false)
-numbered true b r e z = absurd (omega arith)
-numbered false true r e z = absurd (omega arith)
-numbered false false r e z = (refl, refl)
+laid_in : (a b : Bool) (r : Result (Unit {0}) Fault) → r ≡ cond a (Err GivenAlready) (cond b (Err TooMany) (Ok tt)) → r ≡ Ok tt → (a ≡ false) × (b ≡ false)
+laid_in true b r e z = absurd (cc)
+laid_in false true r e z = absurd (cc)
+laid_in false false r e z = (refl, refl)
 
 -- 4 and 5 as `put` gives them, where the range is right
-staged : (a b : Bool) (r : ℕ) (m j : Net) → r ≡ cond a 4 (cond b 5 0) → (r ≡ 0 → j ≡ m) → cond a (bad 4) (cond b (bad 5) (good j)) ≡ after r m
-unfolding after
+staged : (a b : Bool) (r : Result (Unit {0}) Fault) (m j : Net) → r ≡ cond a (Err GivenAlready) (cond b (Err TooMany) (Ok tt)) → (r ≡ Ok tt → j ≡ m)
+    → cond a (bad 4) (cond b (bad 5) (good j)) ≡ after r m
 staged true b r m j e h = rw e
 staged false true r m j e h = rw e
 staged false false r m j e h = rw e (ap good (h e))
 
+pub on_laid : (r : Result (Unit {0}) Fault) (P : Type 0) → (r ≡ Ok tt → P) → OnOk r P
+on_laid (Ok u) P h = h refl
+on_laid (Err f) P h = tt
+
 pub past_none : (w n : ℕ) (d : List ℕ) → Past w n d d
 past_none w n d = record { untouched = λ j h. refl }
 
-module _ (w k n : ℕ) (d s e : List ℕ) (r : ℕ) (add : Addition w k n d s e r) where
-  pub added_order : InOrder w k n d → length e ≡ length d → r ≡ 0 → InOrder w k (n + 1) e
+module _ (w k n : ℕ) (d s e : List ℕ) (r : Result (Unit {0}) Fault) (add : Addition w k n d s e r) where
+  pub added_order : InOrder w k n d → length e ≡ length d → r ≡ Ok tt → InOrder w k (n + 1) e
   added_order o l z =
-      let b = numbered (given (key_of k) s (rows_of w n d)) (leb 1024 n) r add.number z in
+      let b = laid_in (given (key_of k) s (rows_of w n d)) (leb 1024 n) r add.fault z in
       record {
         room = rw l o.room;
         few = omega (arith, leb-false 1024 n b.1);
@@ -88,10 +101,10 @@ module _ (w k n : ℕ) (d s e : List ℕ) (r : ℕ) (add : Addition w k n d s e 
         → cond (given key (of s) (rows (at d) 0 n)) (bad 4) (cond (leb 1024 (length (rows (at d) 0 n))) (bad 5) (good j)) ≡ after r m
     added_kept j m f =
         let g : given key (of s) (rows (at d) 0 n) ≡ given (key_of k) s (rows_of w n d) = rw (read_rows n d) (given_map of (key_of k) key s new (rows_of w n d) old) in
-        let i : r ≡ 0 → rows (at e) 0 (n + 1) ≡ insert key (of s) (rows (at d) 0 n) =
+        let i : r ≡ Ok tt → rows (at e) 0 (n + 1) ≡ insert key (of s) (rows (at d) 0 n) =
         λ z. read_rows (n + 1) e ∙ ap (λ (l : List (List ℕ)). map of l) (add.inserted z) ∙ sym (insert_map of (key_of k) key s new (rows_of w n d) old)
         ∙ ap (λ (l : List A). insert key (of s) l) (sym (read_rows n d)) in
-        rw (g, length_rows (at d) 0 n) (staged (given (key_of k) s (rows_of w n d)) (leb 1024 n) r m j add.number (λ z. f (i z)))
+        rw (g, length_rows (at d) 0 n) (staged (given (key_of k) s (rows_of w n d)) (leb 1024 n) r m j add.fault (λ z. f (i z)))
 
 -- ## Links
 
@@ -106,18 +119,21 @@ link_key_lem : (t : List ℕ) → link_key (link_at t 0) ≡ key_of 1 t
 unfolding link_key link_at key_of entries rows
 link_key_lem t = refl
 
-module _ (n c l u v w : ℕ) (d e : List ℕ) (r p : ℕ) (fs : List Fun) where
-  pub link_wide : link_fits n (link l u v w) ≡ false → put (net n p (link_rows c d) fs) (link_line (link l u v w)) ≡ after 3 (net n p (link_rows (c + 1) e) fs)
-  unfolding put after
+abbrev pub link_row : Link → List ℕ
+link_row l = l.number ∷ l.from ∷ l.to ∷ l.weight ∷ []
+
+module _ (n c : ℕ) (l : Link) (d : List ℕ) (p : ℕ) (fs : List net.Fun) where
+  pub link_wide : link_fits n (link_of l) ≡ false → put (net n p (link_rows c d) fs) (link_line (link_of l)) ≡ bad 3
+  unfolding put
   link_wide f = rw f
 
-  pub link_added : link_fits n (link l u v w) ≡ true → Addition 4 1 c d (l ∷ u ∷ v ∷ w ∷ []) e r
-      → put (net n p (link_rows c d) fs) (link_line (link l u v w)) ≡ after r (net n p (link_rows (c + 1) e) fs)
+  pub link_added : (e : List ℕ) (r : Result (Unit {0}) Fault) → link_fits n (link_of l) ≡ true → Addition 4 1 c d (link_row l) e r
+      → put (net n p (link_rows c d) fs) (link_line (link_of l)) ≡ after r (net n p (link_rows (c + 1) e) fs)
   unfolding put link_rows link_at
-  link_added f add =
+  link_added e r f add =
       rw f
-      (added_kept 4 1 c d (l ∷ u ∷ v ∷ w ∷ []) e r add (λ t. link_at t 0) link_at link_is link_key (link_key_lem (l ∷ u ∷ v ∷ w ∷ [])) (λ t m. link_key_lem t)
-      (net n p (insert link_key (link l u v w) (rows (link_at d) 0 c)) fs) (net n p (rows (link_at e) 0 (c + 1)) fs) (λ q. cc))
+      (added_kept 4 1 c d (link_row l) e r add (λ t. link_at t 0) link_at link_is link_key (link_key_lem (link_row l)) (λ t m. link_key_lem t)
+      (net n p (insert link_key (link_of l) (rows (link_at d) 0 c)) fs) (net n p (rows (link_at e) 0 (c + 1)) fs) (λ q. cc))
 
 -- ## Functions
 
@@ -146,24 +162,42 @@ coded_none d = record { kinds = λ r m. absurd (unfold rows_of rows Mem in m) }
 pub in_order_none : (w k : ℕ) (d : List ℕ) → 1024 * w ≤ length d → InOrder w k 0 d
 in_order_none w k d h = record { room = h; few = omega arith; rising = unfold rows_of rows Sorted in tt }
 
-module _ (c v k x y w : ℕ) (d e : List ℕ) (r : ℕ) where
-  pub fun_wide : (n p : ℕ) (ls : List Link) → fun_fits n p (fun v (kind_of_code k) x y w) ≡ false
-      → put (net n p ls (fun_rows c d)) (fun_line (fun v (kind_of_code k) x y w)) ≡ after 3 (net n p ls (fun_rows (c + 1) e))
-  unfolding put after
-  fun_wide n p ls f = rw f
+kind_code : (q : Kind) → kind_of_code (code (named q)) ≡ named q
+unfolding kind_of_code
+kind_code Conv = refl
+kind_code Wrap = refl
+kind_code Unwrap = refl
 
-  module _ (small : k < 3) (coded : Coded c d) (add : Addition 5 4 c d (v ∷ k ∷ x ∷ y ∷ w ∷ []) e r) where
-    pub fun_added : (n p : ℕ) (ls : List Link) → fun_fits n p (fun v (kind_of_code k) x y w) ≡ true
-        → put (net n p ls (fun_rows c d)) (fun_line (fun v (kind_of_code k) x y w)) ≡ after r (net n p ls (fun_rows (c + 1) e))
-    unfolding put fun_rows fun_at
-    fun_added n p ls f =
-        rw f
-        (added_kept 5 4 c d (v ∷ k ∷ x ∷ y ∷ w ∷ []) e r add (λ t. fun_at t 0) fun_at fun_is fun_key (fun_key_lem (v ∷ k ∷ x ∷ y ∷ w ∷ []) small) (λ t m. fun_key_lem t (coded.kinds t m))
-        (net n p ls (insert fun_key (fun v (kind_of_code k) x y w) (rows (fun_at d) 0 c))) (net n p ls (rows (fun_at e) 0 (c + 1))) (λ q. cc))
+code_low : (q : Kind) → code (named q) < 3
+code_low Conv = omega arith
+code_low Wrap = omega arith
+code_low Unwrap = omega arith
 
-    pub fun_coded : r ≡ 0 → Coded (c + 1) e
-    fun_coded z = record { kinds = λ t m. go t (mem_insert (key_of 4) t (v ∷ k ∷ x ∷ y ∷ w ∷ []) (rows_of 5 c d) (rw (add.inserted z) at m)) }
+abbrev pub fun_row : Fun → List ℕ
+fun_row f = f.node ∷ code (named f.kind) ∷ f.x ∷ f.y ∷ f.weight ∷ []
+
+-- the row is read as the function again
+row_fun : (f : Fun) → fun_at (fun_row f) 0 ≡ fun_of f
+unfolding fun_at
+row_fun f = rw (kind_code f.kind)
+
+module _ (c : ℕ) (f : Fun) (d : List ℕ) where
+  pub fun_wide : (n p : ℕ) (ls : List net.Link) → fun_fits n p (fun_of f) ≡ false → put (net n p ls (fun_rows c d)) (fun_line (fun_of f)) ≡ bad 3
+  unfolding put
+  fun_wide n p ls h = rw h
+
+  module _ (e : List ℕ) (r : Result (Unit {0}) Fault) (coded : Coded c d) (add : Addition 5 4 c d (fun_row f) e r) where
+    pub fun_added : (n p : ℕ) (ls : List net.Link) → fun_fits n p (fun_of f) ≡ true
+        → put (net n p ls (fun_rows c d)) (fun_line (fun_of f)) ≡ after r (net n p ls (fun_rows (c + 1) e))
+    unfolding put fun_rows
+    fun_added n p ls h =
+        rw (h, ← row_fun f)
+        (added_kept 5 4 c d (fun_row f) e r add (λ t. fun_at t 0) fun_at fun_is fun_key (fun_key_lem (fun_row f) (code_low f.kind)) (λ t m. fun_key_lem t (coded.kinds t m))
+        (net n p ls (insert fun_key (fun_at (fun_row f) 0) (rows (fun_at d) 0 c))) (net n p ls (rows (fun_at e) 0 (c + 1))) (λ q. cc))
+
+    pub fun_coded : r ≡ Ok tt → Coded (c + 1) e
+    fun_coded z = record { kinds = λ t m. go t (mem_insert (key_of 4) t (fun_row f) (rows_of 5 c d) (rw (add.inserted z) at m)) }
       where
-        go : (t : List ℕ) → (t ≡ v ∷ k ∷ x ∷ y ∷ w ∷ []) ⊎ Mem t (rows_of 5 c d) → get_or t 1 0 < 3
-        go t (inl q) = rw q small
+        go : (t : List ℕ) → (t ≡ fun_row f) ⊎ Mem t (rows_of 5 c d) → get_or t 1 0 < 3
+        go t (inl q) = rw q (code_low f.kind)
         go t (inr m) = coded.kinds t m

@@ -1,16 +1,19 @@
--- The rooms that hold the records kept, and what the number of a line says of them. Assumes nothing: these are definitions.
-use Rattle.std.specs.Prelude.{◌≡◌, cond, List, ℕ, ◌*◌, ◌≤◌, ◌<◌, eqb, length, get_or}
+-- The rooms that hold the records kept, and what a line comes to. Assumes nothing: these are definitions.
+use Rattle.std.specs.Prelude.{◌≡◌, List, ℕ, ◌*◌, ◌≤◌, ◌<◌, length, get_or, Result, Ok, Err}
 use Rattle.paper.specs.Limits.{most_records}
 use Rattle.paper.specs.Net.{Net}
+use Rattle.paper.specs.Faults.{number_of}
+use Rattle.paper.specs.declared.fault.Fault.{Fault}
 use Rattle.paper.specs.File.{Kept, bad, good}
 use Rattle.laws.specs.Sets.{Mem}
 use Rattle.laws.proofs.Insert.{Sorted}
 use Rattle.network_records.specs.Columns.{fun_width, kind_at}
 use Rattle.file_rows.specs.Rows.{rows_of, key_of}
 
--- what the number r says: 0 that the network k is kept, any other that the line is bad by it
-unfoldable pub after : ℕ → Net → Kept
-after r k = cond (eqb r 0) (good k) (bad r)
+-- the network k is kept, or the line is bad by the fault's number
+abbrev pub after : Result (Unit {0}) Fault → Net → Kept
+after (Ok u) k = good k
+after (Err f) k = bad (number_of f)
 
 -- n rows of w numbers stand in d, rising by the first k numbers of each; there is room for 1,024
 pub record InOrder (w k n : ℕ) (d : List ℕ) : Type 0 where

@@ -1,121 +1,113 @@
--- What the reader says of a line, from the numbers and words that it read there. Assumes nothing.
-use mathlib.Core.Path.{◌≡◌, refl, sym, ◌∙◌}
-use mathlib.Core.Bool.{Bool, true, false, cond}
-use mathlib.Core.List.{List}
-use mathlib.Core.Option.{Option, none, some}
-use Prim.Native.Nat.{ℕ}
-use lib.Dec.{eqb}
-use lib.ListN.{length, get_or}
-use Rattle.paper.specs.Text.{number, fields, same, net_word, link_word, fun_word, conv_word, wrap_word, unwrap_word}
-use Rattle.paper.specs.Net.{Kind}
-use Rattle.paper.specs.File.{misshapen, kind_of, net_of, link_of, fun_of, shaped}
-use Rattle.digits.specs.declared.read.Number.TheVariants.{Misshapen as NotSpelled, Value}
-use Rattle.digits.specs.Read.{part, told}
-use Rattle.file_fields.specs.Fields.{field_at, Numbers}
-use Rattle.file_fields.proofs.Numbers.{on, all_told, one_lacks}
-use Rattle.file_lines.specs.declared.Said.TheVariants.{Misshapen, Net as SaidNet, Link as SaidLink, Fun as SaidFun}
-use Rattle.file_lines.specs.Said.{told_kind, said_of}
+-- What the reader says of a line by its number of fields, from the numbers that it read there. Assumes nothing.
+use Rattle.std.proofs.Common.{◌≡◌, ◌∙◌, refl, ap, List, [], ◌∷◌, ℕ, get_or, Option, Some, None}
+use Rattle.std.specs.Option.{option_map, option_and_then}
+use mathlib.Core.Option as maths
+use Rattle.paper.specs.Text.{number}
+use Rattle.paper.specs.Net as net
+use Rattle.paper.specs.File.{Shape, kind_of, net_of, link_of, fun_of}
+use Rattle.digits.specs.Read.{told}
+use Rattle.network_records.specs.Kinds.{named}
+use Rattle.network_records.specs.declared.kind.Kind.{Kind}
+use Rattle.file_fields.specs.Fields.{field_of, numbers}
+use Rattle.file_lines.specs.declared.Said.{Said}
+use Rattle.file_lines.specs.declared.Said.TheVariants.{Net as SaidNet, Link as SaidLink, Fun as SaidFun}
+use Rattle.file_lines.specs.Said.{kind_told, told_kind, said_of}
 
--- ## Lines by their number of fields: each of their numbers is told, or one is misshapen
+abbrev pub net_said : List ℕ → Said
+net_said vs = SaidNet (get_or vs 0 0) (get_or vs 1 0)
 
-net_told : (a b : Option ℕ) → said_of (net_of a b) ≡ on Misshapen (told a) (λ n. on Misshapen (told b) (λ p. SaidNet n p))
-unfolding net_of said_of told
-net_told none b = refl
-net_told (some n) none = refl
-net_told (some n) (some p) = refl
+abbrev pub link_said : List ℕ → Said
+link_said vs = SaidLink (record { number = get_or vs 0 0; from = get_or vs 1 0; to = get_or vs 2 0; weight = get_or vs 3 0 })
 
-link_told : (a b c d : Option ℕ)
-    → said_of (link_of a b c d) ≡ on Misshapen (told a) (λ l. on Misshapen (told b) (λ u. on Misshapen (told c) (λ v. on Misshapen (told d) (λ w. SaidLink l u v w))))
-unfolding link_of said_of told
-link_told none b c d = refl
-link_told (some l) none c d = refl
-link_told (some l) (some u) none d = refl
-link_told (some l) (some u) (some v) none = refl
-link_told (some l) (some u) (some v) (some w) = refl
+abbrev pub fun_said : ℕ → Kind → List ℕ → Said
+fun_said v k vs = SaidFun (record { node = v; kind = k; x = get_or vs 0 0; y = get_or vs 1 0; weight = get_or vs 2 0 })
 
-fun_told : (a : Option ℕ) (b : Option Kind) (c d e : Option ℕ)
-    → said_of (fun_of a b c d e)
-    ≡ on Misshapen (told a) (λ v. on Misshapen (told_kind b) (λ k. on Misshapen (told c) (λ x. on Misshapen (told d) (λ y. on Misshapen (told e) (λ w. SaidFun v k x y w)))))
-unfolding fun_of said_of told told_kind
-fun_told none b c d e = refl
-fun_told (some v) none c d e = refl
-fun_told (some v) (some k) none d e = refl
-fun_told (some v) (some k) (some x) none e = refl
-fun_told (some v) (some k) (some x) (some y) none = refl
-fun_told (some v) (some k) (some x) (some y) (some w) = refl
+module _ (l : List ℕ) where
+  abbrev pub net_shape : Shape
+  net_shape = net_of (number (field_of l 1)) (number (field_of l 2))
 
-module _ {l : List ℕ} {a e : ℕ} {vs : List ℕ} {r : Bool} (s : Numbers l a e 1 vs r) where
-  pub net_all : length vs ≡ 2 → r ≡ true → SaidNet (get_or vs 0 0) (get_or vs 1 0) ≡ said_of (net_of (number (field_at l a e 1)) (number (field_at l a e 2)))
-  net_all h t = all_told Misshapen s 2 h (λ us. SaidNet (get_or us 0 0) (get_or us 1 0)) t ∙ sym (net_told _ _)
+  abbrev pub link_shape : Shape
+  link_shape = link_of (number (field_of l 1)) (number (field_of l 2)) (number (field_of l 3)) (number (field_of l 4))
 
-  pub net_lacks : length vs ≡ 2 → r ≡ false → Misshapen ≡ said_of (net_of (number (field_at l a e 1)) (number (field_at l a e 2)))
-  net_lacks h t = one_lacks Misshapen s 2 h (λ us. SaidNet (get_or us 0 0) (get_or us 1 0)) t ∙ sym (net_told _ _)
+  abbrev pub fun_shape : Shape
+  fun_shape = fun_of (number (field_of l 1)) (kind_of (field_of l 2)) (number (field_of l 3)) (number (field_of l 4)) (number (field_of l 5))
 
-  pub link_all : length vs ≡ 4 → r ≡ true → SaidLink (get_or vs 0 0) (get_or vs 1 0) (get_or vs 2 0) (get_or vs 3 0)
-      ≡ said_of (link_of (number (field_at l a e 1)) (number (field_at l a e 2)) (number (field_at l a e 3)) (number (field_at l a e 4)))
-  link_all h t = all_told Misshapen s 4 h (λ us. SaidLink (get_or us 0 0) (get_or us 1 0) (get_or us 2 0) (get_or us 3 0)) t ∙ sym (link_told _ _ _ _)
+  -- ## All that is read is told
 
-  pub link_lacks : length vs ≡ 4 → r ≡ false → Misshapen ≡ said_of (link_of (number (field_at l a e 1)) (number (field_at l a e 2)) (number (field_at l a e 3)) (number (field_at l a e 4)))
-  link_lacks h t = one_lacks Misshapen s 4 h (λ us. SaidLink (get_or us 0 0) (get_or us 1 0) (get_or us 2 0) (get_or us 3 0)) t ∙ sym (link_told _ _ _ _)
+  net_told : option_map net_said (numbers l 1 2) ≡ said_of net_shape
+  unfolding numbers told net_of said_of
+  net_told = go (number (field_of l 1)) (number (field_of l 2))
+    where
+      go : (a b : maths.Option ℕ) → option_map net_said (option_and_then (λ v. option_map (λ vs. v ∷ vs) (option_and_then (λ w. Some (w ∷ [])) (told b))) (told a)) ≡ said_of (net_of a b)
+      go maths.none b = refl
+      go (maths.some n) maths.none = refl
+      go (maths.some n) (maths.some p) = refl
 
-module _ (a : Option ℕ) (b : Option Kind) where
-  pub no_node : (c d f : Option ℕ) → told a ≡ NotSpelled → Misshapen ≡ said_of (fun_of a b c d f)
-  no_node c d f p = sym (fun_told a b c d f ∙ rw p)
+  link_told : option_map link_said (numbers l 1 4) ≡ said_of link_shape
+  unfolding numbers told link_of said_of
+  link_told = go (number (field_of l 1)) (number (field_of l 2)) (number (field_of l 3)) (number (field_of l 4))
+    where
+      on : maths.Option ℕ → Option (List ℕ) → Option (List ℕ)
+      on a o = option_and_then (λ v. option_map (λ vs. v ∷ vs) o) (told a)
 
-  pub no_kind : (c d f : Option ℕ) (v : ℕ) → told a ≡ Value v → told_kind b ≡ NotSpelled → Misshapen ≡ said_of (fun_of a b c d f)
-  no_kind c d f v p q = sym (fun_told a b c d f ∙ rw (p, q))
+      go : (a b c d : maths.Option ℕ) → option_map link_said (on a (on b (on c (on d (Some []))))) ≡ said_of (link_of a b c d)
+      go maths.none b c d = refl
+      go (maths.some n) maths.none c d = refl
+      go (maths.some n) (maths.some u) maths.none d = refl
+      go (maths.some n) (maths.some u) (maths.some v) maths.none = refl
+      go (maths.some n) (maths.some u) (maths.some v) (maths.some w) = refl
 
-  module _ {l : List ℕ} {i e : ℕ} {vs : List ℕ} {r : Bool} (s : Numbers l i e 3 vs r) (v k : ℕ) (p : told a ≡ Value v) (q : told_kind b ≡ Value k) (h : length vs ≡ 3) where
-    pub fun_all : r ≡ true → SaidFun v k (get_or vs 0 0) (get_or vs 1 0) (get_or vs 2 0) ≡ said_of (fun_of a b (number (field_at l i e 3)) (number (field_at l i e 4)) (number (field_at l i e 5)))
-    fun_all t = all_told Misshapen s 3 h (λ us. SaidFun v k (get_or us 0 0) (get_or us 1 0) (get_or us 2 0)) t ∙ sym (fun_told a b _ _ _ ∙ rw (p, q))
+  fun_told : option_and_then (λ v. option_and_then (λ k. option_map (fun_said v k) (numbers l 3 3)) (told_kind (kind_of (field_of l 2)))) (told (number (field_of l 1))) ≡ said_of fun_shape
+  unfolding numbers told told_kind fun_of said_of
+  fun_told = go (number (field_of l 1)) (kind_of (field_of l 2)) (number (field_of l 3)) (number (field_of l 4)) (number (field_of l 5))
+    where
+      on : maths.Option ℕ → Option (List ℕ) → Option (List ℕ)
+      on a o = option_and_then (λ v. option_map (λ vs. v ∷ vs) o) (told a)
 
-    pub fun_lacks : r ≡ false → Misshapen ≡ said_of (fun_of a b (number (field_at l i e 3)) (number (field_at l i e 4)) (number (field_at l i e 5)))
-    fun_lacks t = one_lacks Misshapen s 3 h (λ us. SaidFun v k (get_or us 0 0) (get_or us 1 0) (get_or us 2 0)) t ∙ sym (fun_told a b _ _ _ ∙ rw (p, q))
+      go : (a : maths.Option ℕ) (b : maths.Option net.Kind) (c d e : maths.Option ℕ) → option_and_then (λ v. option_and_then (λ k. option_map (fun_said v k) (on c (on d (on e (Some []))))) (told_kind b)) (told a) ≡ said_of (fun_of a b c d e)
+      go maths.none b c d e = refl
+      go (maths.some v) maths.none c d e = refl
+      go (maths.some v) (maths.some k) maths.none d e = refl
+      go (maths.some v) (maths.some k) (maths.some x) maths.none e = refl
+      go (maths.some v) (maths.some k) (maths.some x) (maths.some y) maths.none = refl
+      go (maths.some v) (maths.some k) (maths.some x) (maths.some y) (maths.some w) = refl
 
--- ## Kind words
+  -- ## At each exit
 
-pub kind_conv : (f : List ℕ) (t : Bool) → t ≡ same f conv_word → t ≡ true → Value 0 ≡ told_kind (kind_of f)
-unfolding kind_of told_kind
-kind_conv f t e h = rw (sym e ∙ h)
+  pub net_some : (vs : List ℕ) → Some vs ≡ numbers l 1 2 → Some (net_said vs) ≡ said_of net_shape
+  net_some vs e = ap (option_map net_said) e ∙ net_told
 
-pub kind_wrap : (f : List ℕ) (t u : Bool) → t ≡ same f conv_word → t ≡ false → u ≡ same f wrap_word → u ≡ true → Value 1 ≡ told_kind (kind_of f)
-unfolding kind_of told_kind
-kind_wrap f t u e h d g = rw (sym e ∙ h, sym d ∙ g)
+  pub net_none : None ≡ numbers l 1 2 → None ≡ said_of net_shape
+  net_none e = ap (option_map net_said) e ∙ net_told
 
-pub kind_unwrap : (f : List ℕ) (t u v : Bool) → t ≡ same f conv_word → t ≡ false → u ≡ same f wrap_word → u ≡ false → v ≡ same f unwrap_word → v ≡ true → Value 2 ≡ told_kind (kind_of f)
-unfolding kind_of told_kind
-kind_unwrap f t u v e h d g i j = rw (sym e ∙ h, sym d ∙ g, sym i ∙ j)
+  pub link_some : (vs : List ℕ) → Some vs ≡ numbers l 1 4 → Some (link_said vs) ≡ said_of link_shape
+  link_some vs e = ap (option_map link_said) e ∙ link_told
 
-pub kind_none : (f : List ℕ) (t u v : Bool) → t ≡ same f conv_word → t ≡ false → u ≡ same f wrap_word → u ≡ false → v ≡ same f unwrap_word → v ≡ false → NotSpelled ≡ told_kind (kind_of f)
-unfolding kind_of told_kind
-kind_none f t u v e h d g i j = rw (sym e ∙ h, sym d ∙ g, sym i ∙ j)
+  pub link_none : None ≡ numbers l 1 4 → None ≡ said_of link_shape
+  link_none e = ap (option_map link_said) e ∙ link_told
 
--- ## The word and the number of fields decide
+  pub fun_some : (v : ℕ) (k : Kind) (vs : List ℕ) → Some v ≡ told (number (field_of l 1)) → Some k ≡ told_kind (kind_of (field_of l 2)) → Some vs ≡ numbers l 3 3
+      → Some (fun_said v k vs) ≡ said_of fun_shape
+  fun_some v k vs e f g = rw (← e, ← f, ← g) at fun_told
 
-module _ (l : List ℕ) (a e : ℕ) where
-  pub net_shape : (t s : Bool) → t ≡ same (field_at l a e 0) net_word → t ≡ true → s ≡ eqb (length (fields (part l a e))) 3
-      → said_of (shaped (fields (part l a e))) ≡ said_of (cond s (net_of (number (field_at l a e 1)) (number (field_at l a e 2))) misshapen)
-  unfolding shaped field_at
-  net_shape t s q h d = rw (sym q ∙ h, d)
+  pub fun_no_node : None ≡ told (number (field_of l 1)) → None ≡ said_of fun_shape
+  fun_no_node e = rw (← e) at fun_told
 
-  pub link_shape : (t u s : Bool) → t ≡ same (field_at l a e 0) net_word → t ≡ false → u ≡ same (field_at l a e 0) link_word → u ≡ true → s ≡ eqb (length (fields (part l a e))) 5
-      → said_of (shaped (fields (part l a e)))
-      ≡ said_of (cond s (link_of (number (field_at l a e 1)) (number (field_at l a e 2)) (number (field_at l a e 3)) (number (field_at l a e 4))) misshapen)
-  unfolding shaped field_at
-  link_shape t u s q h f g d = rw (sym q ∙ h, sym f ∙ g, d)
+  pub fun_no_kind : (v : ℕ) → Some v ≡ told (number (field_of l 1)) → None ≡ told_kind (kind_of (field_of l 2)) → None ≡ said_of fun_shape
+  fun_no_kind v e f = rw (← e, ← f) at fun_told
 
-  pub fun_shape : (t u v s : Bool) → t ≡ same (field_at l a e 0) net_word → t ≡ false → u ≡ same (field_at l a e 0) link_word → u ≡ false → v ≡ same (field_at l a e 0) fun_word → v ≡ true
-      → s ≡ eqb (length (fields (part l a e))) 6
-      → said_of (shaped (fields (part l a e)))
-      ≡ said_of (cond s (fun_of (number (field_at l a e 1)) (kind_of (field_at l a e 2)) (number (field_at l a e 3)) (number (field_at l a e 4)) (number (field_at l a e 5))) misshapen)
-  unfolding shaped field_at
-  fun_shape t u v s q h f g i j d = rw (sym q ∙ h, sym f ∙ g, sym i ∙ j, d)
+  pub fun_no_numbers : (v : ℕ) (k : Kind) → Some v ≡ told (number (field_of l 1)) → Some k ≡ told_kind (kind_of (field_of l 2)) → None ≡ numbers l 3 3 → None ≡ said_of fun_shape
+  fun_no_numbers v k e f g = rw (← e, ← f, ← g) at fun_told
 
-  pub no_shape : (t u v : Bool) → t ≡ same (field_at l a e 0) net_word → t ≡ false → u ≡ same (field_at l a e 0) link_word → u ≡ false → v ≡ same (field_at l a e 0) fun_word → v ≡ false
-      → Misshapen ≡ said_of (shaped (fields (part l a e)))
-  unfolding shaped field_at said_of
-  no_shape t u v q h f g i j = rw (sym q ∙ h, sym f ∙ g, sym i ∙ j)
+pub ruleset nets = (net_some, net_none)
 
-pub none_said : Misshapen ≡ said_of misshapen
-unfolding said_of
-none_said = refl
+pub ruleset links = (link_some, link_none)
+
+pub ruleset funs = (fun_some, fun_no_node, fun_no_kind, fun_no_numbers)
+
+-- a kind that is told is the paper's
+pub named_told : (k : net.Kind) → named (kind_told k) ≡ k
+unfolding kind_told
+named_told net.conv = refl
+named_told net.wrap = refl
+named_told net.unwrap = refl

@@ -1,11 +1,18 @@
-// A place: a node with a protocol.
+// A place, a node with a protocol, and an enquiry, from one place to another.
 ghost use Rattle.std.specs.Prelude.{◌≡◌, ◌*◌, ◌/◌, ◌%◌, ◌≤◌, ◌<◌};
 ghost use Rattle.paper.specs.Net.{place};
 
-#[derive(Clone, Copy)]
+#[derive(Clone, Copy, Debug, PartialEq, Eq)]
 pub struct Place {
     pub node: usize,
     pub protocol: usize,
+}
+
+// From S with a on top of the stack to D with only b on it.
+#[derive(Clone, Copy, Debug, PartialEq, Eq)]
+pub struct Enquiry {
+    pub start: Place,
+    pub end: Place,
 }
 
 impl Place {

@@ -1,43 +1,38 @@
-// One input line of the route program, read: an enquiry, or misshapen. The line goes from byte a up to its LF at byte e.
+// One input line of the route program, read: an enquiry, if it is not misshapen. The line comes without its LF.
 #![tactic(auto)]
 
-ghost use Rattle.std.specs.Prelude.{◌≡◌, ◌≤◌, ◌<◌, length};
-ghost use Rattle.paper.specs.Text.{number, fields};
-ghost use Rattle.paper.specs.Program.{asks_of, asked_by};
-ghost use Rattle.digits.specs.Read.{part};
-ghost use Rattle.file_fields.specs.Fields.{field_at};
+ghost use Rattle.std.specs.Prelude.{◌≡◌};
+ghost use Rattle.paper.specs.Text.{fields};
+ghost use Rattle.paper.specs.Program.{asked_by};
 ghost use Rattle.program_asks.specs.Asked.{ask_of};
 
 use file_fields::{field_is, has_fields, numbers_at};
+use paper::place::Place;
 
-// S, a, D and b; a number above 1,000,000,000 stands as 1,000,000,001, which is below no n or p.
+// From where, and to where; a number above 1,000,000,000 stands as 1,000,000,001, which is below no n or p.
 #[derive(Clone, Copy)]
-pub enum Ask {
-    Misshapen,
-    Enquiry(u32, u32, u32, u32),
+pub struct Ask {
+    pub start: Place,
+    pub end: Place,
 }
 
-// An ask line, by its number of fields.
-fn ask_line(input: &[u8], a: usize, e: usize) -> Ask
-    requires { (a ≤ e) × (e < length input.now) }
-    ensures { result ≡ ask_of (asks_of (number (field_at input.now a e 1)) (number (field_at input.now a e 2)) (number (field_at input.now a e 3)) (number (field_at input.now a e 4))) }
+// What the line asks: its word is ask, and its fields are the two places.
+#[tactic(auto, using(crate::proofs::Asking::asking))]
+pub fn read_ask(line: &[u8]) -> Option<Ask>
+    ensures { result ≡ ask_of (asked_by (fields line.now)) }
 {
-    let mut v = [0u32; 4];
-    if numbers_at(input, a, e, 1, &mut v) {
-        return Ask::Enquiry(v[0], v[1], v[2], v[3]);
+    if !field_is(line, 0, b"ask") || !has_fields(line, 5) {
+        return None;
     }
-    Ask::Misshapen
-}
-
-pub fn read_ask(input: &[u8], a: usize, e: usize) -> Ask
-    requires { (a ≤ e) × (e < length input.now) }
-    ensures { result ≡ ask_of (asked_by (fields (part input.now a e))) }
-{
-    if field_is(input, a, e, 0, b"ask") {
-        if has_fields(input, a, e, 5) {
-            return ask_line(input, a, e);
-        }
-        return Ask::Misshapen;
-    }
-    Ask::Misshapen
+    let [start_node, start_protocol, end_node, end_protocol] = numbers_at::<4>(line, 1)?;
+    Some(Ask {
+        start: Place {
+            node: start_node as usize,
+            protocol: start_protocol as usize,
+        },
+        end: Place {
+            node: end_node as usize,
+            protocol: end_protocol as usize,
+        },
+    })
 }

@@ -2,6 +2,7 @@
 use Rattle.std.specs.Prelude.{ℕ, ◌+◌, ◌*◌, List, [], ◌∷◌, get_or}
 use Rattle.paper.specs.Net.{Key, key}
 use Rattle.network_records.specs.Columns.{kind_of_code, rows}
+use Rattle.trace_replay.specs.declared.steps.Steps.{Steps}
 
 -- the key that four numbers are: link number, kind, x, y
 unfoldable pub key_of : List ℕ → Key
@@ -17,3 +18,7 @@ key_at q i = key_of (entries q i)
 -- the first k steps
 unfoldable pub keys_at : List ℕ → ℕ → List Key
 keys_at q k = rows (key_at q) 0 k
+
+-- the steps of a route in the step room
+abbrev pub keys : Steps → List Key
+keys s = keys_at s.room.now s.count

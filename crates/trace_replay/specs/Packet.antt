@@ -11,6 +11,7 @@ use Rattle.network.specs.Network.{nodes, hop_in, Within}
 use Rattle.network.specs.Arranged.{Arranged}
 use Rattle.trace_replay.specs.Keys.{keys_at}
 use Rattle.trace_replay.specs.declared.packet.Packet.{Packet}
+use Rattle.trace_replay.specs.declared.steps.Steps.{Steps}
 
 -- ## One step
 
@@ -69,3 +70,6 @@ pub record Route (g : List ℕ) (start : Place) (q : List ℕ) (k : ℕ) : Type 
   pub few : k ≤ longest
   pub room : 4 * k ≤ length q
   pub runs : Runs (hop_in g) (keys_at q k) (source start)
+
+abbrev pub IsRoute : List ℕ → Steps → Type 0
+IsRoute g s = Route g s.start s.room.now s.count

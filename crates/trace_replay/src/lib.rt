@@ -2,5 +2,5 @@
 #![tactic(auto)]
 
 pub mod hops;
-pub mod keys;
 pub mod packet;
+pub mod steps;

@@ -1,27 +1,23 @@
--- The loop keeps: no link before i is the one sought, and link i leaves the node. Assumes nothing.
-use mathlib.Core.Path.{sym, ◌∙◌}
-use native.Mathlib.Omega.{arith}
+use Rattle.std.proofs.Common.{sym, ◌∙◌}
 use borrow.Author.Tests.{eq-eqb, ne_eqb}
-use Rattle.trace_replay.proofs.Finding.{first, further, here, nowhere}
+use Rattle.trace_replay.proofs.Finding.{to_link, own_here, here, further, nowhere}
 use Rattle.trace_replay.proofs.hops.link_of.Goals as goal
 
 pub loop-i-init : goal.loop-i-init
-loop-i-init c = first _ _ _ _ c.next_link-i.ensures
+loop-i-init c = to_link c.args.net.now c.args.v c.args.l (rw (← c.into_iter-i-iterator.ensures.into_iter_gives) at c.links_of-i-items.ensures.stretch)
 
 pub link_number-requires : goal.link_number-requires
-link_number-requires c = (c.requires.0, omega (arith, c.loop-i-test.true, c.links-end.ensures.0))
+link_number-requires c = (own_here c.loop-i.invariant c.in-Some.ensures.steps).0
 
-pub returns-then-link_number-l : goal.returns-then-link_number-l
-returns-then-link_number-l c = here _ _ _ _ (omega (arith, c.loop-i-test.true, c.links-end.ensures.0)) c.loop-i.invariant (eq-eqb _ _ (sym c.link_number.ensures.0 ∙ c.if-link_number-l.true))
-
-pub next_link-i-requires-in-loop-i : goal.next_link-i-requires-in-loop-i
-next_link-i-requires-in-loop-i c = (c.requires.0, omega (arith, c.loop-i-test.true, c.links-end.ensures.0), c.requires.1)
-
-pub loop-i-smaller : goal.loop-i-smaller
-loop-i-smaller c = omega (arith, c.next_link-i-in-loop-i.ensures.from_here, c.loop-i-test.true)
+pub returns-then-link_number-l-clause-first : goal.returns-then-link_number-l-clause-first
+returns-then-link_number-l-clause-first c =
+    let y = c.in-Some.ensures.steps in
+    here c.loop-i.invariant y (rw ((own_here c.loop-i.invariant y).1, eq-eqb _ _ (sym c.link_number.ensures.0 ∙ c.if-link_number-l.true)))
 
 pub loop-i-preserved : goal.loop-i-preserved
-loop-i-preserved c = further _ _ _ _ _ (omega (arith, c.loop-i-test.true, c.links-end.ensures.0)) c.loop-i.invariant (ne_eqb _ _ (λ e. c.if-link_number-l.false (c.link_number.ensures.0 ∙ e))) c.next_link-i-in-loop-i.ensures
+loop-i-preserved c =
+    let y = c.in-Some.ensures.steps in
+    further c.loop-i.invariant y (rw ((own_here c.loop-i.invariant y).1, ne_eqb _ _ (λ e. c.if-link_number-l.false (c.link_number.ensures.0 ∙ e))))
 
-pub returns : goal.returns
-returns c = rw c.links-end.ensures.0 (nowhere _ _ _ _ (omega (arith, c.loop-i-test.false, c.links-end.ensures.0)) c.loop-i.invariant)
+pub returns-clause-first : goal.returns-clause-first
+returns-clause-first c = nowhere c.loop-i.invariant c.in-None.ensures.steps.1.0

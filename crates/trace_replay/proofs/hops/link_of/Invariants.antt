@@ -1,13 +1,9 @@
--- The loop keeps: no link before i is the one sought, and link i leaves the node. Assumes nothing.
-use Prim.Native.Nat.{◌-◌}
-use lib.Dec.{eqb}
-use Rattle.network.specs.Network.{links, number}
+-- The loop keeps: no link before the next one is the one sought. Assumes nothing.
+use Rattle.network.specs.Network.{links}
 use Rattle.network.specs.Next.{leaves}
-use Rattle.trace_replay.proofs.Finding.{Sought}
+use Rattle.trace_replay.specs.Hops.{numbered}
+use Rattle.trace_replay.proofs.Finding.{Walk}
 use Rattle.trace_replay.proofs.hops.link_of.Given as goal
 
 abbrev pub invariant-loop-i : goal.invariant-loop-i
-invariant-loop-i l = Sought (leaves l.net l.v) (λ k. eqb (number l.net k) l.l) (links l.net) l.i
-
-abbrev pub decreases-loop-i : goal.decreases-loop-i
-decreases-loop-i l = l.end - l.i
+invariant-loop-i l = Walk (leaves l.net l.v) (numbered l.net l.v l.l) (links l.net) l.initial.i-iterator l.i-iterator
