@@ -11,7 +11,7 @@ use borrow.Author.Tests.{ltb-true, ltb-false, eqb-true, eqb-false}
 use Rattle.paper.specs.Net.{before}
 use Rattle.paper.specs.Route.{Lex}
 use Rattle.laws.proofs.Order.{lex_refl, lex_trans}
-use Rattle.network.specs.Next.{Next}
+use Rattle.network.specs.Next.{Stretch}
 use Rattle.unfold_tries.specs.declared.trial.Step.{Step}
 use Rattle.unfold_tries.specs.Trial.{Better, Any}
 
@@ -75,7 +75,7 @@ better_then {P} {Q} {R} {a} {b} {c} split left right x y =
     beat s (inl p) = lex_trans c.key b.key s.key y.keeps (x.beats s p)
     beat s (inr q) = y.beats s q
 
--- ## Loops over the records that a walk yields
+-- ## Loops over the records of a node
 
 module _ (P : ℕ → Step → Type 0) where
   -- from the first m to the first r, where those between bring what Q has
@@ -93,22 +93,13 @@ module _ (P : ℕ → Step → Type 0) where
   any_past : {a b : Step} {m r : ℕ} → Better (Any P m) a b → m ≤ r → ((k : ℕ) (s : Step) → m ≤ k → k < r → P k s → ⊥) → Better (Any P r) a b
   any_past x h none = any_to h none (λ s q. absurd q) x (better_none (λ s q. q))
 
-  any_more : {a b c : Step} (m : ℕ) → Better (Any P m) a b → Better (P m) b c → Better (Any P (m + 1)) a c
+  pub any_more : {a b c : Step} (m : ℕ) → Better (Any P m) a b → Better (P m) b c → Better (Any P (m + 1)) a c
   any_more m x y = any_to (omega arith) (λ k s l h q. let e : k ≡ m = omega arith in rw e at q) (λ s q. record { at = m; below = omega arith; is = q }) x y
 
-module _ (P : ℕ → Step → Type 0) (test : ℕ → Bool) (n : ℕ) where
-  -- the better of a and what the numbers before i bring is b; i is one of those to try, or their end
-  pub record Walked (a b : Step) (i : ℕ) : Type 0 where
-    pub at_most : i ≤ n
-    pub done : Better (Any P i) a b
-    pub here : i < n → test i ≡ true
+  -- those before and behind the node's bring nothing
+  module _ {test : ℕ → Bool} {n lo hi : ℕ} (none : (k : ℕ) (s : Step) → test k ≡ false → P k s → ⊥) (own : Stretch test n lo hi) where
+    pub scan_start : {a : Step} → Better (Any P lo) a a
+    scan_start = any_past {m = 0} (better_none (λ s q. omega (arith, q.below))) (omega arith) (λ k s l h. none k s (own.before k h))
 
-  module _ (none : (k : ℕ) (s : Step) → test k ≡ false → P k s → ⊥) where
-    pub walk_start : {a : Step} (r : ℕ) → Next test n 0 r → Walked a a r
-    walk_start r x = record { at_most = x.at_most; done = any_past P (better_none (λ s q. omega (arith, q.below))) x.from_here (λ k s l h. none k s (x.none_before k l h)); here = x.holds }
-
-    pub walk_turn : {a b c : Step} (i r : ℕ) → Walked a b i → Better (P i) b c → Next test n (i + 1) r → Walked a c r
-    walk_turn i r w y x = record { at_most = x.at_most; done = any_past P (any_more P i w.done y) x.from_here (λ k s l h. none k s (x.none_before k l h)); here = x.holds }
-
-  pub walk_end : {a b : Step} (i : ℕ) → Walked a b i → (i < n → ⊥) → Better (Any P n) a b
-  walk_end i w h = let e : i ≡ n = omega (arith, w.at_most) in rw e at w.done
+    pub scan_end : {a b : Step} (i : ℕ) → hi ≤ i → i ≤ n → Better (Any P i) a b → Better (Any P n) a b
+    scan_end i h m x = any_past x m (λ k s l g. none k s (own.behind k (omega arith) g))

@@ -3,14 +3,18 @@ use Prim.Native.Nat.{ℕ, suc, ◌+◌, ◌-◌, ◌*◌, ◌<◌, ◌≤◌}
 use mathlib.Core.Path.{◌≡◌}
 use mathlib.Core.List.{List, [], ◌∷◌}
 use native.Mathlib.Omega.{arith}
+use Rattle.paper.specs.Net.{code}
+use Rattle.network_records.specs.Kinds.{named}
+use Rattle.network_records.specs.declared.kind.Kind.{Kind}
 use Rattle.network.specs.Network.{links, funs, places, number, from, to, toll, x_of, y_of, fee, place_in}
 use Rattle.unfold_exits.specs.Cost.{cost}
 use Rattle.unfold_exits.specs.Lists.{finishing}
+use Rattle.unfold_exits.specs.declared.lists.Exit.{Exit}
 use Rattle.unfold_tries.specs.declared.trial.Spot.{Spot}
 use Rattle.unfold_tries.specs.declared.trial.Step.{Step}
 use Rattle.unfold_tries.specs.Trial.{Any, ByFun, Serves, next_of, way_over}
 
-module _ (g W C E : List ℕ) (len : ℕ) (at : Spot) (k h : ℕ) where
+module _ (g W C : List ℕ) (E : List Exit) (at : Spot) (k : Kind) (h : ℕ) where
   -- a step that is tried and passes: u and q are left where it leads
   pub record Tried (s : Step) : Type 0 where
     pub j : ℕ
@@ -19,14 +23,14 @@ module _ (g W C E : List ℕ) (len : ℕ) (at : Spot) (k h : ℕ) where
     pub q : ℕ
     pub of_fun : j < funs g
     pub of_link : i < links g
-    pub serving : Serves g at.node k at.protocol h j
+    pub serving : Serves g at.node (code (named k)) at.protocol h j
     pub leaves : from g i ≡ at.node
     pub weighs : at.weight ≡ fee g j + toll g i + u
     pub counts : at.left ≡ suc q
-    pub finishes : finishing W C E len (place_in g (to g i) (next_of g k j) * places g) ≡ cost u q
-    pub is : s ≡ record { key = number g i ∷ k ∷ x_of g j ∷ y_of g j ∷ []; to = record { node = to g i; protocol = next_of g k j; weight = u; left = q } }
+    pub finishes : finishing W C E (place_in g (to g i) (next_of g (code (named k)) j) * places g) ≡ cost u q
+    pub is : s ≡ record { key = number g i ∷ code (named k) ∷ x_of g j ∷ y_of g j ∷ []; to = record { node = to g i; protocol = next_of g (code (named k)) j; weight = u; left = q } }
 
-  pub any_tried : {s : Step} → 0 < at.left → at.left ≤ 4096 → Any (ByFun g W C E len at k h) (funs g) s → Tried s
+  pub any_tried : {s : Step} → 0 < at.left → at.left ≤ 4096 → Any (ByFun g W C E at k h) (funs g) s → Tried s
   unfolding way_over
   any_tried {s} some_left few_left a =
       let o = a.is.over in
@@ -46,7 +50,7 @@ module _ (g W C E : List ℕ) (len : ℕ) (at : Spot) (k h : ℕ) where
         is = o.is.is;
       }
 
-  pub tried_any : {s : Step} → Tried s → Any (ByFun g W C E len at k h) (funs g) s
+  pub tried_any : {s : Step} → Tried s → Any (ByFun g W C E at k h) (funs g) s
   unfolding way_over
   tried_any {s} t =
       let eu : t.u ≡ at.weight - (fee g t.j + toll g t.i) = omega (arith, t.weighs) in

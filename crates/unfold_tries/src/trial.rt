@@ -1,4 +1,6 @@
 // What is tried: a step from a spot by a function in use.
+use network_records::kind::Kind;
+
 // Where the unfolding stands, and what is left there.
 #[derive(Clone, Copy)]
 pub struct Spot {
@@ -18,7 +20,7 @@ pub struct Step {
 // A function in use: its kind, its protocols, its weight, and the protocol that it leaves on top.
 #[derive(Clone, Copy)]
 pub struct Use {
-    pub kind: u16,
+    pub kind: Kind,
     pub x: u16,
     pub y: u16,
     pub weight: u32,

@@ -1,21 +1,18 @@
 use native.Mathlib.Omega.{arith}
-use Rattle.unfold_tries.proofs.Better.{walk_start, walk_turn, walk_end}
-use Rattle.unfold_tries.proofs.Serves.{fun_elsewhere}
+use Rattle.unfold_tries.proofs.Better.{scan_start, any_more, scan_end}
+use Rattle.unfold_tries.proofs.Serves.{stands_at, fun_elsewhere}
 use Rattle.unfold_tries.proofs.funs.try_funs.Goals as goal
 
 pub loop-j-init : goal.loop-j-init
-loop-j-init c = let a = c.args in walk_start _ _ _ (fun_elsewhere a.net.now a.weight.now a.count.now a.exits.now a.len a.at a.kind a.hidden) _ (rw c.sought_by-x.ensures at c.next_fun-j.ensures)
+loop-j-init c = let own = c.funs_of-own.ensures.stretch in (omega (arith, own.order, own.within), scan_start _ (fun_elsewhere _ _ _ _ _ _ _) c.funs_of-own.ensures.stretch)
 
 pub try_fun-found-requires : goal.try_fun-found-requires
 try_fun-found-requires c =
-    let p = c.requires in
-    let h = rw c.funs.ensures.0 at c.loop-j-test.true in
-    (p.0, h, c.loop-j.invariant.here h, p.1)
+    let own = c.funs_of-own.ensures.stretch in
+    (omega (arith, own.within), stands_at _ _ _ (own.inside c.loop-j.j (omega arith) (omega arith)), c.requires)
 
 pub loop-j-preserved : goal.loop-j-preserved
-loop-j-preserved c =
-    let a = c.args in
-    walk_turn _ _ _ (fun_elsewhere a.net.now a.weight.now a.count.now a.exits.now a.len a.at a.kind a.hidden) _ _ c.loop-j.invariant c.try_fun-found.ensures (rw c.sought_by-x.ensures at c.next_fun-j-in-loop-j.ensures)
+loop-j-preserved c = let own = c.funs_of-own.ensures.stretch in (omega (arith, own.within), any_more _ c.loop-j.j c.loop-j.invariant.1 c.try_fun-found.ensures)
 
 pub returns : goal.returns
-returns c = walk_end _ _ _ _ c.loop-j.invariant (λ h. omega (arith, c.funs.ensures.0))
+returns c = scan_end _ (fun_elsewhere _ _ _ _ _ _ _) c.funs_of-own.ensures.stretch c.loop-j.j (omega arith) c.loop-j.invariant.0 c.loop-j.invariant.1
