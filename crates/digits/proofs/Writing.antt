@@ -49,6 +49,9 @@ none_left {e} {j} l = record { next = omega (arith, l.ends); text = sym (laid_no
 pub wrote_then : {w v x : Writer} {s t : List ℕ} → Wrote w v s → Wrote v x t → Wrote w x (s ++ t)
 wrote_then p q = record { room = q.room ∙ p.room; size = q.size ∙ p.size; put = then p.put q.put }
 
+pub byte_then : {w v x : Writer} {b : ℕ} {s : List ℕ} → Wrote w v (b ∷ []) → Wrote v x s → Wrote w x (b ∷ s)
+byte_then p q = wrote_then p q
+
 pub leaves_all : (w : Writer) (s : List ℕ) → Leaves w w s s
 leaves_all w s = record { room = refl; left = whole_left w.out.now w.at s }
 

@@ -9,6 +9,7 @@ use crate::tens::ten;
 use network_records::kind::Kind;
 
 // The count of n's digits.
+#[tactic(auto, using(crate::proofs::Digits::digit_count))]
 pub fn width(n: u32) -> usize
     ensures value { result ≡ length (decimal n) }
     ensures lower_bound { (1 ≤ result) × (result ≤ 10) }
@@ -22,6 +23,7 @@ pub fn width(n: u32) -> usize
 }
 
 // The digit of n at the power 10 ^ k, as a byte.
+#[tactic(auto, using(crate::proofs::Digits::ten_power_pos), unfolding(crate::specs::Digits::digit_byte))]
 fn digit(n: u32, k: usize) -> u8
     requires { k < 10 }
     ensures { result ≡ digit_byte n k }
@@ -70,6 +72,7 @@ impl<'a> Writer<'a> {
         self.at += 1;
     }
 
+    #[tactic(auto, using(crate::proofs::Writing::word_put))]
     pub fn word(&mut self, word: &[u8])
         requires { Holds self.old word.now }
         ensures { Wrote self.old self.new word.now }
@@ -80,6 +83,7 @@ impl<'a> Writer<'a> {
     }
 
     // The highest digit first.
+    #[tactic(auto, using(crate::proofs::Writing::number_leaves, crate::proofs::Writing::number_wrote, crate::proofs::Digits::length_digits))]
     pub fn number(&mut self, n: u32)
         requires { Holds self.old (decimal n) }
         ensures { Wrote self.old self.new (decimal n) }
@@ -90,6 +94,7 @@ impl<'a> Writer<'a> {
     }
 
     // A tab and a number.
+    #[tactic(auto, using(crate::proofs::Writing::byte_then))]
     pub fn field(&mut self, n: u32)
         requires { Holds self.old (9 ∷ decimal n) }
         ensures { Wrote self.old self.new (9 ∷ decimal n) }
@@ -99,6 +104,7 @@ impl<'a> Writer<'a> {
     }
 
     // A tab and a word.
+    #[tactic(auto, using(crate::proofs::Writing::byte_then))]
     pub fn word_field(&mut self, word: &[u8])
         requires { Holds self.old (9 ∷ word.now) }
         ensures { Wrote self.old self.new (9 ∷ word.now) }
@@ -108,6 +114,7 @@ impl<'a> Writer<'a> {
     }
 
     // The numbers, each with a tab before it.
+    #[tactic(auto, using(crate::proofs::Writing::field_room, crate::proofs::Writing::fields_wrote))]
     pub fn fields(&mut self, numbers: &[u32])
         requires { Holds self.old (tabbed (map decimal numbers.now)) }
         ensures { Wrote self.old self.new (tabbed (map decimal numbers.now)) }

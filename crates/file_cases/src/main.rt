@@ -4,6 +4,7 @@
 #![tactic(auto)]
 
 ghost use Rattle.std.specs.Prelude.{◌≤◌, ◌<◌, length};
+ghost use Rattle.std.specs.Option.{IfSome};
 ghost use Rattle.network_records.specs.Columns.{link_room, fun_room};
 
 use file_fields::find;
@@ -15,18 +16,14 @@ use std::{fs, io};
 
 mod many;
 
-fn wide(x: u32) -> u64 {
-    x as u64
-}
-
 fn tell(rt: &impl Print, n: u64) -> io::Result<()> {
     rt.write_all(b"\t")?;
     rt.print(n)
 }
 
 fn tell_judgement(rt: &impl Print, j: Judgement) -> io::Result<()> {
-    tell(rt, wide(j.number))?;
-    tell(rt, wide(j.line))?;
+    tell(rt, u64::from(j.number))?;
+    tell(rt, u64::from(j.line))?;
     let z = j.size;
     tell(rt, z.nodes as u64)?;
     tell(rt, z.protocols as u64)?;
@@ -34,23 +31,17 @@ fn tell_judgement(rt: &impl Print, j: Judgement) -> io::Result<()> {
     tell(rt, z.funs as u64)
 }
 
-// How many entries n links take, and n functions, where they are few.
-fn link_entries(n: usize) -> usize {
-    if n < 16 { n * LINK_WIDTH } else { 0 }
-}
-
-fn fun_entries(n: usize) -> usize {
-    if n < 16 { n * FUN_WIDTH } else { 0 }
+// How many entries n records of a width take, where they are few.
+fn few_entries(n: usize, width: usize) -> usize
+    requires { width ≤ 5 }
+{
+    if n < 16 { n * width } else { 0 }
 }
 
 // The first k entries.
 fn tell_entries(rt: &impl Print, room: &[u32], k: usize) -> io::Result<()> {
-    let mut i: usize = 0;
-    while i < k {
-        if i < room.len() {
-            tell(rt, wide(room[i]))?;
-        }
-        i += 1;
+    for entry in room.iter().take(k) {
+        tell(rt, u64::from(*entry))?;
     }
     Ok(())
 }
@@ -61,8 +52,8 @@ fn with_rooms(rt: &impl Print, file: &[u8], links: &mut [u32], funs: &mut [u32])
     let j = file_read::read(file, links, funs);
     let z = j.size;
     tell_judgement(rt, j)?;
-    tell_entries(rt, links, link_entries(z.links))?;
-    tell_entries(rt, funs, fun_entries(z.funs))
+    tell_entries(rt, links, few_entries(z.links, LINK_WIDTH))?;
+    tell_entries(rt, funs, few_entries(z.funs, FUN_WIDTH))
 }
 
 pub fn one(rt: &impl Print, name: &[u8], file: &[u8]) -> io::Result<()> {
@@ -73,27 +64,22 @@ pub fn one(rt: &impl Print, name: &[u8], file: &[u8]) -> io::Result<()> {
     rt.write_all(b"\n")
 }
 
-// The file named from a up to n, whose bytes go from there up to e.
-fn named(rt: &impl Print, cases: &[u8], a: usize, n: usize, e: usize) -> io::Result<()>
-    requires { (a ≤ n) × (n < e) × (e ≤ length cases.now) }
+// The first case's name and bytes, and the cases after it.
+fn first_case(cases: &[u8]) -> Option<(&[u8], &[u8], &[u8])>
+    ensures { IfSome result (λ case. length case.2.now < length cases.now) }
 {
-    one(rt, &cases[a..n], &cases[n + 1..e])
+    let end = find(cases, b'\n')?;
+    let below = &cases[end + 1..];
+    let mark = find(below, 30)?;
+    let others = below.get(mark + 2..)?;
+    Some((&cases[..end], &below[..mark], others))
 }
 
 // The cases, one after another.
-fn all(rt: &impl Print, cases: &[u8]) -> io::Result<()> {
-    let mut a: usize = 0;
-    while a < cases.len() {
-        let n = find(cases, a, cases.len(), b'\n');
-        if n == cases.len() {
-            return Ok(());
-        }
-        let e = find(cases, n + 1, cases.len(), 30);
-        if cases.len() - e < 2 {
-            return Ok(());
-        }
-        named(rt, cases, a, n, e)?;
-        a = e + 2;
+fn all(rt: &impl Print, mut cases: &[u8]) -> io::Result<()> {
+    while let Some((name, file, others)) = first_case(cases) {
+        one(rt, name, file)?;
+        cases = others;
     }
     Ok(())
 }

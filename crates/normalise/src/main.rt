@@ -7,17 +7,17 @@ use std::io;
 
 // The text room has the length of the longest network file, which no normal file passes.
 fn normalise(rt: &impl Print, file: &[u8], text: &mut [u8]) -> io::Result<()> {
-    let o = normal_file(file, text);
-    let length = o.length;
-    if o.number != 0 {
-        return write_reply(rt, b"badnet", o.number, o.line);
+    let outcome = normal_file(file, text);
+    if outcome.number != 0 {
+        return write_reply(rt, b"badnet", outcome.number, outcome.line);
     }
-    rt.write_all(&text[0..length])
+    let length = outcome.length;
+    rt.write_all(&text[..length])
 }
 
 fn main(rt: HostRuntime) -> io::Result<()> {
     let mut file = [0u8; 65537];
     let mut text = [0u8; 65536];
     let n = load_file(&rt, &mut file);
-    normalise(&rt, &file[0..n], &mut text)
+    normalise(&rt, &file[..n], &mut text)
 }

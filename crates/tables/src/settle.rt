@@ -7,18 +7,6 @@ use network::size::places;
 use tables_lowering::begin::prepare;
 use tables_visits::sweep_all;
 
-// The stamp from which a row counts as new in the next sweep: none does where the last one changed nothing.
-fn since_when(fell: bool, stamp: u32) -> u32
-    ensures { result ≡ cond fell stamp 0 }
-{
-    if fell { stamp } else { 0 }
-}
-
-// The next stamp; the last one is used again.
-fn later(stamp: u32) -> u32 {
-    if stamp < 4294967295 { stamp + 1 } else { stamp }
-}
-
 // A sweep passes over what is not new; the last one passes over nothing and finds nothing to lower.
 pub fn settle(net: &[u32], weight: &mut [u32], count: &mut [u16], stamps: &mut [u32])
     requires { Sweeping net.now weight.old count.old stamps.old }
@@ -32,8 +20,8 @@ pub fn settle(net: &[u32], weight: &mut [u32], count: &mut [u16], stamps: &mut [
     while !done {
         let fell = sweep_all(net, weight, count, stamps, stamp, since, back);
         done = !fell & (since == 0);
-        since = since_when(fell, stamp);
-        stamp = later(stamp);
+        since = if fell { stamp } else { 0 };
+        stamp = stamp.saturating_add(1);
         back = !back;
     }
 }

@@ -1,8 +1,7 @@
 // A cost: weight × 65,536 + steps, in one number; from FAR on there is no route.
-ghost use Rattle.std.specs.Prelude.{◌≡◌, ◌+◌, ◌*◌, ◌<◌, ◌≤◌, min, eqb, length, get_or};
-ghost use Rattle.paper.specs.Limits.{never_mark, long_mark};
+ghost use Rattle.std.specs.Prelude.{◌≡◌, ◌+◌, ◌*◌, ◌<◌, ◌≤◌, length};
 ghost use Rattle.tables_costs.specs.Cells.{Spells};
-ghost use Rattle.tables_costs.specs.Costs.{far, worth, cost_of, cost_at, lower_to};
+ghost use Rattle.tables_costs.specs.Costs.{far, worth, cost_of, lower_to};
 
 use crate::entry::Entry;
 use paper::limits::{HEAVIEST, LONG_MARK, NEVER_MARK, OVER_MARK};
@@ -17,44 +16,16 @@ pub fn step_cost(weight: u32, steps: u16) -> u64
 }
 
 #[tactic(auto, using(crate::proofs::Worth::cost_marked, crate::proofs::Worth::cost_plain))]
-pub fn cost_of(weight: u32, count: u16) -> u64
-    ensures { (result ≡ cost_of weight count) × (result ≤ far) }
+pub fn cost_of(e: Entry) -> u64
+    ensures { (result ≡ cost_of e.weight e.count) × (result ≤ far) }
 {
-    if weight == NEVER_MARK {
+    if e.weight == NEVER_MARK {
         return FAR;
     }
-    step_cost(weight, count)
+    step_cost(e.weight, e.count)
 }
 
-// Whether entry i says that there is no route.
-pub fn is_never(weight: &[u32], i: usize) -> bool
-    requires { i < length weight.now }
-    ensures { result ≡ eqb (get_or weight.now i 0) never_mark }
-{
-    weight[i] == NEVER_MARK
-}
-
-#[tactic(auto, unfolding(crate::specs::Costs::cost_at))]
-pub fn cost_at(weight: &[u32], count: &[u16], i: usize) -> u64
-    requires { (i < length weight.now) × (i < length count.now) }
-    ensures { (result ≡ cost_at weight.now count.now i) × (result ≤ far) }
-{
-    cost_of(weight[i], count[i])
-}
-
-pub fn least(a: u64, b: u64) -> u64
-    ensures { result ≡ min a b }
-{
-    a.min(b)
-}
-
-pub fn cost_there(costs: &[u64], i: usize) -> u64
-    requires { i < length costs.now }
-    ensures { result ≡ get_or costs.now i 0 }
-{
-    costs[i]
-}
-
+// The cost at i becomes the lesser of it and k.
 #[tactic(auto, unfolding(crate::specs::Costs::lower_to))]
 pub fn lower_to(costs: &mut [u64], i: usize, k: u64)
     requires { i < length costs.old }

@@ -3,3 +3,4 @@
 
 pub mod cost;
 pub mod entry;
+pub mod rooms;

@@ -1,9 +1,8 @@
 -- What the proofs of the code cite: one law for each function, over plain variables. Assumes nothing.
-use Prim.Native.Nat.{ℕ, ◌<◌, ◌-◌}
-use mathlib.Core.Path.{◌≡◌, refl, sym, ◌∙◌}
+use Prim.Native.Nat.{ℕ, ◌-◌}
+use mathlib.Core.Path.{◌≡◌, sym, ◌∙◌}
 use mathlib.Core.Bool.{Bool, true, false, cond, ◌||◌}
 use mathlib.Core.List.{List}
-use native.Mathlib.Omega.{arith}
 use lib.ListN.{length, set}
 use Rattle.network.specs.Network.{place_in}
 use Rattle.tables_costs.specs.Cells.{cells}
@@ -12,14 +11,6 @@ use Rattle.tables_sweeps.specs.Sweep.{Stage, stage, stamped, visited, node_rows,
 use Rattle.tables_sweeps.proofs.Quiet.{not_both}
 use Rattle.tables_sweeps.proofs.Passes.{passing_over}
 use Rattle.tables_ways.specs.Asked.{Sweeping}
-
-pub marked : (H : List ℕ) (r stamp : ℕ) (b : Bool) → b ≡ true → set H r stamp ≡ cond b (set H r stamp) H
-marked H r stamp true e = refl
-marked H r stamp false e = absurd (let z : ◌≡◌ {A = ℕ} 0 1 = cc in omega arith)
-
-pub unmarked : (H : List ℕ) (r stamp : ℕ) (b : Bool) → b ≡ false → H ≡ cond b (set H r stamp) H
-unmarked H r stamp true e = absurd (let z : ◌≡◌ {A = ℕ} 0 1 = cc in omega arith)
-unmarked H r stamp false e = refl
 
 pub visiting : (g : List ℕ) (stamp since v x at : ℕ) (W C H W' C' H' : List ℕ) (b r : Bool) → cells W' C' r ≡ row g H since v x (cells W C false)
     → at ≡ place_in g v x → H' ≡ cond r (set H at stamp) H → stage W' C' H' (b || r) ≡ visited g stamp since v x (stage W C H b)
@@ -41,13 +32,13 @@ still_sweeping W' C' H' s a b c =
     }
 
 -- the order of the nodes
-pub turned_back : (b : Bool) (n k : ℕ) → b ≡ true → k < n → (n - 1 - k ≡ turned b n k) × (n - 1 - k < n)
+pub turned_back : (b : Bool) (n k : ℕ) → b ≡ true → n - 1 - k ≡ turned b n k
 unfolding turned
-turned_back b n k e h = (rw e, omega arith)
+turned_back b n k e = rw e
 
-pub turned_on : (b : Bool) (n k : ℕ) → b ≡ false → k < n → (k ≡ turned b n k) × (k < n)
+pub turned_on : (b : Bool) (n k : ℕ) → b ≡ false → k ≡ turned b n k
 unfolding turned
-turned_on b n k e h = (rw e, h)
+turned_on b n k e = rw e
 
 pub turning : (g : List ℕ) (stamp since : ℕ) (back : Bool) (n k v : ℕ) (s t : Stage) → v ≡ turned back n k → Passing g stamp since s (node_rows g stamp since v) t
     → Passing g stamp since s (node_rows g stamp since (turned back n k)) t

@@ -18,10 +18,9 @@ fn mark(stamps: &mut [u32], r: usize, stamp: u32, fell: bool)
     requires { r < length stamps.old }
     ensures { stamps.new ≡ cond fell (set stamps.old r stamp) stamps.old }
 {
-    if !fell {
-        return;
+    if fell {
+        stamps[r] = stamp;
     }
-    stamps[r] = stamp;
 }
 
 // The row of a place, passed over where it leans on nothing new. The result: whether this or anything earlier fell.
@@ -60,29 +59,15 @@ fn visit_node(
     requires { Sweeping net.now weight.old count.old stamps.old × (v < nodes net.now) }
     ensures { Passing net.now stamp since (stage weight.old count.old stamps.old fell) (node_rows net.now stamp since v) (stage weight.new count.new stamps.new result) }
 {
-    let end = protocols(net);
     let mut any = fell;
-    let mut x = 0;
-    while x < end {
+    for x in 0..protocols(net) {
         let row = Place {
             node: v,
             protocol: x,
         };
         any = visit(net, weight, count, stamps, stamp, since, row, any);
-        x += 1;
     }
     any
-}
-
-// The k-th of n nodes, from the first on or from the last.
-fn nth(back: bool, n: usize, k: usize) -> usize
-    requires { k < n }
-    ensures { (result ≡ turned back n k) × (result < n) }
-{
-    if back {
-        return n - 1 - k;
-    }
-    k
 }
 
 // All rows: whether an entry fell.
@@ -100,11 +85,9 @@ pub fn sweep_all(
 {
     let n = nodes(net);
     let mut any = false;
-    let mut k = 0;
-    while k < n {
-        let v = nth(back, n, k);
+    for k in 0..n {
+        let v = if back { n - 1 - k } else { k };
         any = visit_node(net, weight, count, stamps, stamp, since, v, any);
-        k += 1;
     }
     any
 }

@@ -20,9 +20,7 @@ fn is_new(net: &[u32], stamps: &[u32], since: u32, at: Place) -> bool
 fn has_news(net: &[u32], stamps: &[u32], since: u32, w: usize) -> bool
     requires { Arranged net.now × (places net.now ≤ length stamps.now) × (w < nodes net.now) }
 {
-    let end = protocols(net);
-    let mut y = 0;
-    while y < end {
+    for y in 0..protocols(net) {
         let row = Place {
             node: w,
             protocol: y,
@@ -30,7 +28,6 @@ fn has_news(net: &[u32], stamps: &[u32], since: u32, w: usize) -> bool
         if is_new(net, stamps, since, row) {
             return true;
         }
-        y += 1;
     }
     false
 }
@@ -68,15 +65,7 @@ fn lands_new(net: &[u32], stamps: &[u32], since: u32, x: usize, i: usize) -> boo
 fn news_far(net: &[u32], stamps: &[u32], since: u32, x: usize) -> bool
     requires { Arranged net.now × (places net.now ≤ length stamps.now) × (x < protocols net.now) }
 {
-    let end = links(net);
-    let mut i = 0;
-    while i < end {
-        if lands_new(net, stamps, since, x, i) {
-            return true;
-        }
-        i += 1;
-    }
-    false
+    (0..links(net)).any(|i| lands_new(net, stamps, since, x, i))
 }
 
 // Whether the row of a place leans on nothing that has changed since then; since 0, everything has.

@@ -12,7 +12,6 @@ use Rattle.paper.specs.Trace.{dotted}
 use Rattle.laws.proofs.Parse.{conv_inv, wrap_inv, unwrap_inv}
 use Rattle.network_records.specs.Columns.{kind_of_code}
 use Rattle.digits.proofs.Digits.{decimal_most}
-use Rattle.trace_stack.proofs.Cells.{kind_other}
 use Rattle.trace_replay.specs.Keys.{key_of}
 use Rattle.trace_measure.specs.Sizes.{lost, gained}
 
@@ -64,14 +63,14 @@ dots_most (z ∷ u ∷ h) = omega (arith, decimal_most z, dots_top z (u ∷ h), 
 -- ## Four numbers as a key: by its kind
 
 module _ (k : List ℕ) where
-  pub by_conv : get_or k 1 0 ≡ 0 → (lost (key_of k) ≡ length (decimal (get_or k 2 0))) × (gained (key_of k) ≡ length (decimal (get_or k 3 0)))
-  unfolding key_of kind_of_code lost gained
-  by_conv e = rw e (refl, refl)
-
-  pub by_wrap : get_or k 1 0 ≡ 1 → (lost (key_of k) ≡ 0) × (gained (key_of k) ≡ 1 + length (decimal (get_or k 3 0)))
-  unfolding key_of kind_of_code lost gained
-  by_wrap e = rw e (refl, refl)
-
-  pub by_unwrap : (get_or k 1 0 ≡ 0 → ⊥) → (get_or k 1 0 ≡ 1 → ⊥) → (lost (key_of k) ≡ 1 + length (decimal (get_or k 3 0))) × (gained (key_of k) ≡ 0)
+  pub by_conv : conv ≡ kind_of_code (get_or k 1 0) → (lost (key_of k) ≡ length (decimal (get_or k 2 0))) × (gained (key_of k) ≡ length (decimal (get_or k 3 0)))
   unfolding key_of lost gained
-  by_unwrap p q = rw (kind_other (get_or k 1 0) p q) (refl, refl)
+  by_conv e = rw (← e) (refl, refl)
+
+  pub by_wrap : wrap ≡ kind_of_code (get_or k 1 0) → (lost (key_of k) ≡ 0) × (gained (key_of k) ≡ 1 + length (decimal (get_or k 3 0)))
+  unfolding key_of lost gained
+  by_wrap e = rw (← e) (refl, refl)
+
+  pub by_unwrap : unwrap ≡ kind_of_code (get_or k 1 0) → (lost (key_of k) ≡ 1 + length (decimal (get_or k 3 0))) × (gained (key_of k) ≡ 0)
+  unfolding key_of lost gained
+  by_unwrap e = rw (← e) (refl, refl)

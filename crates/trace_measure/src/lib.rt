@@ -4,17 +4,52 @@
 ghost use Rattle.std.specs.Prelude.{◌≡◌, ◌+◌, ◌≤◌, ◌<◌, length};
 ghost use Rattle.paper.specs.Normal.{kind_word};
 ghost use Rattle.paper.specs.Trace.{step_lines, trace};
-ghost use Rattle.network_records.specs.Columns.{kind_of_code};
+ghost use Rattle.network_records.specs.Kinds.{named};
 ghost use Rattle.network.specs.Network.{hop_in};
 ghost use Rattle.network.specs.Arranged.{Arranged};
-ghost use Rattle.trace_replay.specs.Keys.{key_of, keys_at};
-ghost use Rattle.trace_replay.specs.Packet.{source, Route};
+ghost use Rattle.trace_replay.specs.Keys.{key_of, keys};
+ghost use Rattle.trace_replay.specs.Packet.{source, IsRoute};
 ghost use Rattle.trace_measure.specs.Sizes.{lost, gained, line_size, most_dots, most_line, Countable, Counted};
 
 use digits::write::width;
-use paper::place::Place;
-use trace_replay::keys::key_at;
-use trace_replay::packet::{Packet, begin, stepped};
+use network::Network;
+use network_records::kind::Kind;
+use trace_replay::packet::Packet;
+use trace_replay::steps::Steps;
+
+#[tactic(auto, unfolding(paper::specs::Normal::kind_word, paper::specs::Text::conv_word, paper::specs::Text::wrap_word, paper::specs::Text::unwrap_word))]
+fn word_size(kind: Kind) -> usize
+    ensures { (result ≡ length (kind_word (named kind))) × (result ≤ 6) }
+{
+    match kind {
+        Kind::Conv => 4,
+        Kind::Wrap => 4,
+        Kind::Unwrap => 6,
+    }
+}
+
+// The bytes of the stack's text after a step.
+fn dots_after(key: [u16; 4], dots: usize) -> usize
+    requires { (lost (key_of key) ≤ dots) × (dots ≤ most_dots) }
+    ensures { result + lost (key_of key) ≡ dots + gained (key_of key) }
+{
+    let x = width(u32::from(key[2]));
+    let y = width(u32::from(key[3]));
+    match Kind::from(key[1]) {
+        Kind::Conv => dots + y - x,
+        Kind::Wrap => dots + 1 + y,
+        Kind::Unwrap => dots - 1 - y,
+    }
+}
+
+fn line_size(key: [u16; 4], node: usize, dots: usize) -> usize
+    requires { (node < 256) × (dots ≤ most_dots) }
+    ensures { (result ≡ line_size (key_of key) node dots) × (result ≤ most_line) }
+{
+    let a = width(u32::from(key[0])) + word_size(Kind::from(key[1]));
+    let b = width(u32::from(key[2])) + width(u32::from(key[3]));
+    11 + a + b + width(node as u32) + dots
+}
 
 // Where a replay is: the packet, the bytes of its stack's text, and the bytes of the step lines so far.
 #[derive(Clone, Copy)]
@@ -24,75 +59,40 @@ pub struct Tally {
     pub size: usize,
 }
 
-fn word_size(kind: u16) -> usize
-    ensures { (result ≡ length (kind_word (kind_of_code kind))) × (result ≤ 6) }
-{
-    if kind == 0 {
-        return 4;
+impl Tally {
+    // One step counted in.
+    fn counted(self, net: &Network, key: [u16; 4]) -> Self
+        requires { Arranged net.now × Countable net.now (key_of key) self }
+        ensures { Counted net.now (key_of key) self result }
+    {
+        let packet = self.packet.stepped(net, key);
+        let dots = dots_after(key, self.dots);
+        let size = self.size + line_size(key, packet.node, dots);
+        Tally { packet, dots, size }
     }
-    if kind == 1 {
-        return 4;
-    }
-    6
-}
-
-// The bytes of the stack's text after a step.
-fn dots_after(key: [u16; 4], dots: usize) -> usize
-    requires { (lost (key_of key) ≤ dots) × (dots ≤ most_dots) }
-    ensures { result + lost (key_of key) ≡ dots + gained (key_of key) }
-{
-    let kind = key[1];
-    let y = width(u32::from(key[3]));
-    if kind == 0 {
-        return dots + y - width(u32::from(key[2]));
-    }
-    if kind == 1 {
-        return dots + 1 + y;
-    }
-    dots - 1 - y
-}
-
-fn line_size(key: [u16; 4], node: usize, dots: usize) -> usize
-    requires { (node < 256) × (dots ≤ most_dots) }
-    ensures { (result ≡ line_size (key_of key) node dots) × (result ≤ most_line) }
-{
-    let a = width(u32::from(key[0])) + word_size(key[1]);
-    let b = width(u32::from(key[2])) + width(u32::from(key[3]));
-    11 + a + b + width(node as u32) + dots
-}
-
-// One step counted in.
-fn counted(net: &[u32], key: [u16; 4], t: Tally) -> Tally
-    requires { Arranged net.now × Countable net.now (key_of key) t }
-    ensures { Counted net.now (key_of key) t result }
-{
-    let packet = stepped(net, key, t.packet);
-    let dots = dots_after(key, t.dots);
-    let size = t.size + line_size(key, packet.node, dots);
-    Tally { packet, dots, size }
 }
 
 // The bytes of the step lines.
-fn steps_size(net: &[u32], start: Place, step: &[u16], steps: usize) -> usize
-    requires { Route net.now start step.now steps }
-    ensures { result ≡ length (step_lines (hop_in net.now) (keys_at step.now steps) (source start)) }
+fn steps_size(net: &Network, steps: &Steps) -> usize
+    requires { IsRoute net.now steps.now }
+    ensures { result ≡ length (step_lines (hop_in net.now) (keys steps.now) (source steps.now.start)) }
 {
     let mut t = Tally {
-        packet: begin(start),
-        dots: width(start.protocol as u32),
+        packet: Packet::begin(steps.start),
+        dots: width(steps.start.protocol as u32),
         size: 0,
     };
-    for i in 0..steps {
-        t = counted(net, key_at(step, i), t);
+    for i in 0..steps.count {
+        t = t.counted(net, steps.key(i));
     }
     t.size
 }
 
 // The bytes of the whole trace.
-pub fn trace_length(net: &[u32], start: Place, weight: u32, step: &[u16], steps: usize) -> usize
-    requires { Route net.now start step.now steps }
-    ensures { result ≡ length (trace (hop_in net.now) start.node start.protocol (keys_at step.now steps) weight) }
+pub fn trace_length(net: &Network, steps: &Steps, weight: u32) -> usize
+    requires { IsRoute net.now steps.now }
+    ensures { result ≡ length (trace (hop_in net.now) steps.now.start.node steps.now.start.protocol (keys steps.now) weight) }
 {
-    let path = 7 + width(weight) + width(steps as u32);
-    path + steps_size(net, start, step, steps)
+    let path = 7 + width(weight) + width(steps.count as u32);
+    path + steps_size(net, steps)
 }

@@ -1,42 +1,38 @@
 -- A text written piece by piece: each piece has room, and the last one ends the text. Assumes nothing.
 use mathlib.Core.Path.{◌≡◌, refl, sym, ap, ◌∙◌}
 use mathlib.Core.List.{List, [], ◌∷◌, ◌++◌, append_assoc, append-nil}
-use Prim.Native.Nat.{ℕ, ◌+◌, ◌≤◌}
-use native.Mathlib.Omega.{arith}
-use lib.ListN.{length, get_or, length-append}
+use Prim.Native.Nat.{ℕ}
+use lib.ListN.{get_or}
 use Rattle.paper.specs.Net.{Key, key}
 use Rattle.paper.specs.Route.{At, at}
 use Rattle.paper.specs.Text.{decimal, tabbed, written, step_word}
 use Rattle.paper.specs.Normal.{kind_word}
 use Rattle.paper.specs.Trace.{dotted, step_line}
 use Rattle.network_records.specs.Columns.{kind_of_code}
-use Rattle.laws.proofs.Laid.{length_laid}
-use Rattle.digits.specs.Write.{Put, Left}
-use Rattle.digits.proofs.Writing.{whole_left, less_left, none_left}
+use Rattle.digits.specs.declared.write.Writer.{Writer}
+use Rattle.digits.specs.Write.{Holds, Wrote, Leaves}
+use Rattle.digits.proofs.Writing.{leaves_all, leaves_less, leaves_room, leaves_none}
 use Rattle.trace_stepline.specs.Texts.{joined, pieces, key_text, end_text}
 
-pub put_size : {d e : List ℕ} {i j : ℕ} {s : List ℕ} → Put d e i j s → length e ≡ length d
-put_size {d} {i = i} {s = s} p = ap length p.text ∙ length_laid d i s
+-- of the pieces us, which go into w's room, ts are left, and w is now v
+pub record Pieces (w v : Writer) (us ts : List (List ℕ)) : Type 0 where
+  pub left : Leaves w v (joined us) (joined ts)
 
--- of the pieces us, which go over d from i on, ts are left, which go over e from j on
-pub record Pieces (d : List ℕ) (i : ℕ) (us : List (List ℕ)) (e : List ℕ) (j : ℕ) (ts : List (List ℕ)) : Type 0 where
-  pub left : Left d i (joined us) e j (joined ts)
+pub begin : (w : Writer) (us : List (List ℕ)) → Pieces w w us us
+begin w us = record { left = leaves_all w (joined us) }
 
-pub begin : (d : List ℕ) (i : ℕ) (us : List (List ℕ)) → Pieces d i us d i us
-begin d i us = record { left = whole_left d i (joined us) }
-
-module _ {d e : List ℕ} {i j : ℕ} {us ts : List (List ℕ)} {t : List ℕ} where
-  pub fits : Pieces d i us e j (t ∷ ts) → i + length (joined us) ≤ length d → j + length t ≤ length e
+module _ {w v : Writer} {us ts : List (List ℕ)} {t : List ℕ} where
+  pub fits : Pieces w v us (t ∷ ts) → Holds w (joined us) → Holds v t
   unfolding joined
-  fits l h = omega (arith, l.left.ends, l.left.size, length-append t (joined ts))
+  fits l h = leaves_room t (joined ts) h l.left
 
-  pub go_on : {f : List ℕ} {k : ℕ} → Pieces d i us e j (t ∷ ts) → Put e f j k t → Pieces d i us f k ts
+  pub go_on : {x : Writer} → Pieces w v us (t ∷ ts) → Wrote v x t → Pieces w x us ts
   unfolding joined
-  go_on l p = record { left = less_left l.left p }
+  go_on l p = record { left = leaves_less l.left p }
 
-pub ended : {d e : List ℕ} {i j : ℕ} {us : List (List ℕ)} → Pieces d i us e j [] → Put d e i j (joined us)
+pub ended : {w v : Writer} {us : List (List ℕ)} → Pieces w v us [] → Wrote w v (joined us)
 unfolding joined
-ended l = none_left l.left
+ended l = leaves_none l.left
 
 -- ## Lines as pieces
 

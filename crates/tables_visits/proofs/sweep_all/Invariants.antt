@@ -2,13 +2,9 @@ use Rattle.tables_sweeps.specs.Sweep.{stage, node_rows, turned, Passing}
 use Rattle.tables_costs.specs.Loop.{upto}
 use lib.ListN.{length}
 use mathlib.Core.Path.{◌≡◌}
-use Prim.Native.Nat.{◌-◌, ◌≤◌}
 use Rattle.tables_visits.proofs.sweep_all.Given as goal
 
 abbrev pub invariant-loop-k : goal.invariant-loop-k
 invariant-loop-k l =
-    (l.k ≤ l.n) × (length l.weight ≡ length l.initial.weight) × (length l.count ≡ length l.initial.count) × (length l.stamps ≡ length l.initial.stamps)
+    (length l.weight ≡ length l.initial.weight) × (length l.count ≡ length l.initial.count) × (length l.stamps ≡ length l.initial.stamps)
     × Passing l.net l.stamp l.since (stage l.initial.weight l.initial.count l.initial.stamps l.initial.any) (upto (λ i. node_rows l.net l.stamp l.since (turned l.back l.n i)) l.k) (stage l.weight l.count l.stamps l.any)
-
-abbrev pub decreases-loop-k : goal.decreases-loop-k
-decreases-loop-k l = l.n - l.k

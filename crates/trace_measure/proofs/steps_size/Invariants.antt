@@ -5,4 +5,4 @@ use Rattle.trace_measure.proofs.Tallies.{Tallied}
 use Rattle.trace_measure.proofs.steps_size.Given as goal
 
 abbrev pub invariant-loop-i : goal.invariant-loop-i
-invariant-loop-i l = (n : ℕ) → Tallied l.net (keys_left l.step l.steps 0) n l.initial.t → Tallied l.net (keys_left l.step l.steps l.i) n l.t
+invariant-loop-i l = (n : ℕ) → Tallied l.net (keys_left l.steps.room.now l.steps.count 0) n l.initial.t → Tallied l.net (keys_left l.steps.room.now l.steps.count l.i) n l.t

@@ -1,20 +1,23 @@
 -- With a dot before it or without. Assumes nothing.
-use Rattle.digits.proofs.Writing.{then}
+use Rattle.std.proofs.Common.{arith}
+use Rattle.digits.proofs.Writing.{wrote_then}
 use Rattle.trace_stepline.proofs.Dotted.{cell_lowest, cell_above}
-use borrow.Author.Rules.{rules}
 use Rattle.trace_stepline.proofs.put_cell.Goals as goal
+use Rattle.trace_stepline.proofs.put_cell.Goals.{then-h-gt0, else-h-gt0}
 
-pub put_number-requires : goal.put_number-requires
-put_number-requires c = rw (cell_lowest c.args.h c.args.n c.if-h-eq0.true) at c.requires
+pub byte-requires : goal.byte-requires
+byte-requires c = omega (arith, rw (cell_above _ _ c.if-h-gt0.true) at c.requires)
 
-pub returns-then-h-eq0 : goal.returns-then-h-eq0
-returns-then-h-eq0 c = let a = c.args in rw (cell_lowest a.h a.n c.if-h-eq0.true) c.put_number.ensures
-
-pub put_byte-i-requires : goal.put_byte-i-requires
-put_byte-i-requires c = let h = rw (cell_above c.args.h c.args.n c.if-h-eq0.false) at c.requires in search rules
-
-pub put_number-requires-2 : goal.put_number-requires-2
-put_number-requires-2 c = let h = rw (cell_above c.args.h c.args.n c.if-h-eq0.false) at c.requires in search rules
+pub number-requires : goal.number-requires
+number-requires c =
+    elim c.if-h-gt0.branch [
+      | then-h-gt0 w ↦ rw w.w-is (omega (arith, rw (cell_above _ _ w.if-h-gt0.true) at c.requires, w.byte.ensures))
+      | else-h-gt0 w ↦ rw w.w-is (rw (cell_lowest _ _ w.if-h-gt0.false) at c.requires)
+    ]
 
 pub returns : goal.returns
-returns c = let a = c.args in rw (cell_above a.h a.n c.if-h-eq0.false) (then c.put_byte-i.ensures c.put_number-2.ensures)
+returns c =
+    elim c.if-h-gt0.branch [
+      | then-h-gt0 w ↦ rw (cell_above _ _ w.if-h-gt0.true) (wrote_then w.byte.ensures (rw w.w-is at c.number.ensures))
+      | else-h-gt0 w ↦ rw (cell_lowest _ _ w.if-h-gt0.false) (rw w.w-is at c.number.ensures)
+    ]

@@ -5,27 +5,26 @@ use Rattle.trace_stepline.specs.Texts.{key_text}
 use Rattle.trace_stepline.proofs.Pieces.{begin, fits, go_on, ended, key_pieces}
 use Rattle.trace_stepline.proofs.put_key.Goals as goal
 
-pub put_word-i-requires : goal.put_word-i-requires
+pub word-requires : goal.word-requires
 unfolding key_text key_of step_word
-put_word-i-requires c = fits (begin c.args.out.now c.args.at (key_pieces c.args.key)) c.requires
+word-requires c = fits (begin c.args.w.now (key_pieces c.args.key)) c.requires
 
-pub put_field-i-requires : goal.put_field-i-requires
+pub field-requires : goal.field-requires
 unfolding key_text key_of step_word
-put_field-i-requires c = fits (go_on (begin c.args.out.now c.args.at (key_pieces c.args.key)) c.put_word-i.ensures) c.requires
+field-requires c = rw c.from.ensures (fits (go_on (begin c.args.w.now (key_pieces c.args.key)) c.word.ensures) c.requires)
 
-pub put_kind-i-requires : goal.put_kind-i-requires
+pub kind-requires : goal.kind-requires
 unfolding key_text key_of step_word
-put_kind-i-requires c = fits (go_on (go_on (begin c.args.out.now c.args.at (key_pieces c.args.key)) c.put_word-i.ensures) c.put_field-i.ensures) c.requires
+kind-requires c = rw c.from-2.ensures (fits (go_on (go_on (begin c.args.w.now (key_pieces c.args.key)) c.word.ensures) (rw c.from.ensures at c.field.ensures)) c.requires)
 
-pub put_field-i-requires-2 : goal.put_field-i-requires-2
+pub field-requires-2 : goal.field-requires-2
 unfolding key_text key_of step_word
-put_field-i-requires-2 c = fits (go_on (go_on (go_on (begin c.args.out.now c.args.at (key_pieces c.args.key)) c.put_word-i.ensures) c.put_field-i.ensures) c.put_kind-i.ensures) c.requires
+field-requires-2 c = rw c.from-3.ensures (fits (go_on (go_on (go_on (begin c.args.w.now (key_pieces c.args.key)) c.word.ensures) (rw c.from.ensures at c.field.ensures)) (rw c.from-2.ensures at c.kind.ensures)) c.requires)
 
-pub put_field-requires : goal.put_field-requires
+pub field-requires-3 : goal.field-requires-3
 unfolding key_text key_of step_word
-put_field-requires c = fits (go_on (go_on (go_on (go_on (begin c.args.out.now c.args.at (key_pieces c.args.key)) c.put_word-i.ensures) c.put_field-i.ensures) c.put_kind-i.ensures) c.put_field-i-2.ensures) c.requires
+field-requires-3 c = rw c.from-4.ensures (fits (go_on (go_on (go_on (go_on (begin c.args.w.now (key_pieces c.args.key)) c.word.ensures) (rw c.from.ensures at c.field.ensures)) (rw c.from-2.ensures at c.kind.ensures)) (rw c.from-3.ensures at c.field-2.ensures)) c.requires)
 
 pub returns : goal.returns
 unfolding key_text key_of step_word
-returns c =
-    ended (go_on (go_on (go_on (go_on (go_on (begin c.args.out.now c.args.at (key_pieces c.args.key)) c.put_word-i.ensures) c.put_field-i.ensures) c.put_kind-i.ensures) c.put_field-i-2.ensures) c.put_field.ensures)
+returns c = ended (go_on (go_on (go_on (go_on (go_on (begin c.args.w.now (key_pieces c.args.key)) c.word.ensures) (rw c.from.ensures at c.field.ensures)) (rw c.from-2.ensures at c.kind.ensures)) (rw c.from-3.ensures at c.field-2.ensures)) (rw c.from-4.ensures at c.field-3.ensures))
