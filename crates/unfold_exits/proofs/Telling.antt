@@ -1,19 +1,17 @@
 -- What the tables tell: as a cost it is far, or it is the cost of the value that the two entries stand for. Assumes nothing.
-use Prim.Native.Nat.{ℕ, ◌+◌, ◌*◌, ◌<◌, ◌≤◌}
+use Prim.Native.Nat.{ℕ, ◌*◌, ◌<◌, ◌≤◌}
 use mathlib.Core.Path.{◌≡◌, refl}
 use mathlib.Core.Bool.{Bool, true, false, cond, ◌&&◌}
 use mathlib.Core.List.{List}
 use native.Mathlib.Omega.{arith}
+use native.Mathlib.Nat.{mul-le-mul}
 use lib.Dec.{leb}
-use lib.ListN.{length}
 use borrow.Author.Tests.{le-leb, lt-leb, leb-true}
 use Rattle.paper.specs.Limits.{heaviest, longest, over_mark}
 use Rattle.laws.specs.Value.{within, over, never}
 use Rattle.tables_costs.specs.Cells.{value}
 use Rattle.tables_costs.specs.Costs.{far}
 use Rattle.unfold_exits.specs.Cost.{cost, told, Square}
-use Rattle.unfold_exits.specs.Lists.{exit_of, Ranged}
-use Rattle.unfold_exits.specs.declared.lists.Exit.{Exit}
 
 pub told_heavy : (w s : ℕ) → heaviest < w → far ≡ told w s
 unfolding told
@@ -53,11 +51,6 @@ told_near w s = go (leb w heaviest) (leb s longest) (leb-true w heaviest) (leb-t
     go true false f g i j h = absurd (omega arith)
     go false c f g i j h = absurd (omega arith)
 
--- an exit's entry in a row
-module _ (W C : List ℕ) (E : List Exit) (size row i : ℕ) (r : Ranged size E) (h : i < length E) (hw : row + size ≤ length W) (hc : row + size ≤ length C) where
-  pub entry_in : (row + exit_of E i < length W) × (row + exit_of E i < length C)
-  entry_in = (omega (arith, r.place_below i h), omega (arith, r.place_below i h))
-
--- the row of one of `size` places, where s is their number
-pub row_in : {size : ℕ} {W C : List ℕ} {E : List Exit} (s row : ℕ) → Square size W C → Ranged size E → s ≡ size → row + s ≤ s * s → Ranged s E × (row + s ≤ length W) × (row + s ≤ length C)
-row_in {size} s row q r e h = let k : row + size ≤ size * size = rw e at h in (rw e r, omega (arith, e, q.weights), omega (arith, e, q.counts))
+-- the rooms' entries can be counted
+pub few_entries : {size : ℕ} {W C : List ℕ} → Square size W C → size * size ≤ 1048576
+few_entries q = mul-le-mul q.small q.small
