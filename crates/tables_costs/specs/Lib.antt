@@ -1,4 +1,3 @@
 pub mod Loop
 pub mod Costs
 pub mod Cells
-pub mod Rooms
