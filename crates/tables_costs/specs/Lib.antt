@@ -1,3 +1,4 @@
 pub mod Loop
 pub mod Costs
 pub mod Cells
+pub mod Rooms

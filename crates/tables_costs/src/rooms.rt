@@ -3,6 +3,7 @@ ghost use Rattle.std.specs.Prelude.{◌≡◌, ◌<◌, ◌≤◌, eqb, length, 
 ghost use Rattle.paper.specs.Limits.{never_mark};
 ghost use Rattle.tables_costs.specs.Cells.{cells, lowered};
 ghost use Rattle.tables_costs.specs.Costs.{far, cost_at};
+ghost use Rattle.tables_costs.specs.Rooms.{SameRooms};
 
 use crate::cost::cost_of;
 use crate::entry::Entry;
@@ -65,7 +66,7 @@ impl TablesMut<'_> {
     #[tactic(auto, unfolding(crate::specs::Cells::lowered, crate::specs::Cells::less))]
     pub fn lower(&mut self, i: usize, e: Entry, fell: bool) -> bool
         requires { (i < length self.old.weight.now) × (i < length self.old.count.now) }
-        ensures same_rooms { (self.new.weight.ghost_name ≡ self.old.weight.ghost_name) × (self.new.count.ghost_name ≡ self.old.count.ghost_name) }
+        ensures same_rooms { SameRooms self.old self.new }
         ensures lowered { cells self.new.weight.now self.new.count.now result ≡ lowered i e.weight e.count (cells self.old.weight.now self.old.count.now fell) }
     {
         if e < self.to_read().read(i) {
