@@ -1,11 +1,7 @@
 -- How a number that is read stands for what the paper defines. Assumes nothing: these are definitions.
-use Rattle.std.specs.Prelude.{Option as Read, Some, None, cond, List, ℕ, ◌-◌, min, take, drop}
+use Rattle.std.specs.Prelude.{Option as Read, Some, None, cond, List, ℕ, ◌-◌, min}
 use Rattle.std.proofs.Math.Option.{Option, none, some}
 use Rattle.paper.specs.Text.{digit, digits, value_from}
-
--- the bytes from a up to e
-unfoldable pub part : List ℕ → ℕ → ℕ → List ℕ
-part l a e = drop a (take e l)
 
 -- a value as it is told: 1,000,000,001 for all above 1,000,000,000, which are in no range
 abbrev pub few : ℕ → ℕ

@@ -8,8 +8,7 @@ ghost use Rattle.std.specs.Option.{IfSome};
 ghost use Rattle.network_records.specs.Columns.{link_room, fun_room};
 
 use file_fields::find;
-use file_read::Judgement;
-use network_records::{FUN_ROOM, FUN_WIDTH, LINK_ROOM, LINK_WIDTH};
+use network_records::{FUN_ROOM, FUN_WIDTH, LINK_ROOM, LINK_WIDTH, Size};
 use program_io::read_full;
 use std::rt::Files;
 use std::{fs, io};
@@ -21,14 +20,11 @@ fn tell(rt: &impl Print, n: u64) -> io::Result<()> {
     rt.print(n)
 }
 
-fn tell_judgement(rt: &impl Print, j: Judgement) -> io::Result<()> {
-    tell(rt, u64::from(j.number))?;
-    tell(rt, u64::from(j.line))?;
-    let z = j.size;
-    tell(rt, z.nodes as u64)?;
-    tell(rt, z.protocols as u64)?;
-    tell(rt, z.links as u64)?;
-    tell(rt, z.funs as u64)
+fn tell_size(rt: &impl Print, size: Size) -> io::Result<()> {
+    tell(rt, size.nodes as u64)?;
+    tell(rt, size.protocols as u64)?;
+    tell(rt, size.links as u64)?;
+    tell(rt, size.funs as u64)
 }
 
 // How many entries n records of a width take, where they are few.
@@ -49,11 +45,19 @@ fn tell_entries(rt: &impl Print, room: &[u32], k: usize) -> io::Result<()> {
 fn with_rooms(rt: &impl Print, file: &[u8], links: &mut [u32], funs: &mut [u32]) -> io::Result<()>
     requires { (link_room ≤ length links.old) × (fun_room ≤ length funs.old) }
 {
-    let j = file_read::read(file, links, funs);
-    let z = j.size;
-    tell_judgement(rt, j)?;
-    tell_entries(rt, links, few_entries(z.links, LINK_WIDTH))?;
-    tell_entries(rt, funs, few_entries(z.funs, FUN_WIDTH))
+    match file_read::read(file, links, funs) {
+        Ok(size) => {
+            rt.write_all(b"\t0\t0")?;
+            tell_size(rt, size)?;
+            tell_entries(rt, links, few_entries(size.links, LINK_WIDTH))?;
+            tell_entries(rt, funs, few_entries(size.funs, FUN_WIDTH))
+        }
+        Err(refusal) => {
+            tell(rt, u64::from(refusal.fault.number()))?;
+            tell(rt, u64::from(refusal.line))?;
+            rt.write_all(b"\t0\t0\t0\t0")
+        }
+    }
 }
 
 pub fn one(rt: &impl Print, name: &[u8], file: &[u8]) -> io::Result<()> {

@@ -45,6 +45,7 @@ fn put_fun(w: &mut Writer, funs: &[u32], j: usize)
     w.byte(b'\n');
 }
 
+#[tactic(auto, using(crate::proofs::Rows::all_rows, crate::proofs::Rows::rows_wrote), unfolding(network_records::specs::Columns::link_rows))]
 fn put_links(w: &mut Writer, links: &[u32], c: usize)
     requires { (c * link_width ≤ length links.now) × Holds w.old (texts link_text (link_rows c links.now)) }
     ensures { Wrote w.old w.new (texts link_text (link_rows c links.now)) }
@@ -54,6 +55,7 @@ fn put_links(w: &mut Writer, links: &[u32], c: usize)
     }
 }
 
+#[tactic(auto, using(crate::proofs::Rows::all_rows, crate::proofs::Rows::rows_wrote), unfolding(network_records::specs::Columns::fun_rows))]
 fn put_funs(w: &mut Writer, funs: &[u32], d: usize)
     requires { (d * fun_width ≤ length funs.now) × Holds w.old (texts fun_text (fun_rows d funs.now)) }
     ensures { Wrote w.old w.new (texts fun_text (fun_rows d funs.now)) }

@@ -7,17 +7,17 @@ use native.Mathlib.Omega.{arith}
 use native.Mathlib.Decide.{dec_lt}
 use lib.Dec.{leb, ltb}
 use borrow.Author.Tests.{le-leb, lt-leb, lt-ltb, le-ltb}
-use Rattle.paper.specs.Net.{Kind, conv, wrap, unwrap, code, Link, link, Fun, fun, Net, net}
-use Rattle.paper.specs.File.{Shape, misshapen, net_line, link_line, fun_line, net_fits, link_fits, fun_fits, header, put}
+use Rattle.std.specs.Prelude.{Some, None}
+use Rattle.paper.specs.Net.{Kind, conv, wrap, unwrap, Link, link, Fun, fun, Net, net}
+use Rattle.paper.specs.File.{Shape, misshapen, net_line, link_line, fun_line, net_fits, link_fits, fun_fits, header, bad, good, put}
 use Rattle.laws.proofs.Before.{Test, holds, fails, test}
 use Rattle.laws.proofs.Shapes.{link_range, fun_range, net_range}
-use Rattle.network_records.specs.declared.Size.{Size}
-use Rattle.network_records.specs.Columns.{kind_of_code}
-use Rattle.file_lines.specs.declared.Said.TheVariants.{Misshapen, Net as SaidNet, Link as SaidLink, Fun as SaidFun}
+use Rattle.network_records.specs.Kinds.{named, link_of, fun_of}
+use Rattle.network_records.specs.declared.record.Link as said
+use Rattle.network_records.specs.declared.record.Fun as said_too
+use Rattle.file_lines.specs.declared.Said.TheVariants.{Net as SaidNet, Link as SaidLink, Fun as SaidFun}
 use Rattle.digits.specs.Read.{few}
-use Rattle.file_lines.specs.Said.{said_of}
-use Rattle.file_keep.specs.Keep.{after}
-use Rattle.file_read.specs.Judge.{nothing, Opens}
+use Rattle.file_lines.specs.Said.{kind_told, said_of}
 
 -- ## Numbers cut down
 
@@ -48,6 +48,12 @@ fun_few : (n p v : ℕ) (k : Kind) (x y w : ℕ) → n ≤ 256 → p ≤ 16 → 
 unfolding fun_fits
 fun_few n p v k x y w h g = rw (ltb_few v n (omega arith), ltb_few x p (omega arith), ltb_few y p (omega arith), leb_few w 1000000000 (omega arith))
 
+kind_named : (q : Kind) → named (kind_told q) ≡ q
+unfolding kind_told
+kind_named conv = refl
+kind_named wrap = refl
+kind_named unwrap = refl
+
 module _ (n p : ℕ) (ls : List Link) (fs : List Fun) (h : n ≤ 256) (g : p ≤ 16) where
   put_link : (l u v w : ℕ) → put (net n p ls fs) (link_line (link l u v w)) ≡ put (net n p ls fs) (link_line (link (few l) (few u) (few v) (few w)))
   unfolding put
@@ -69,54 +75,37 @@ module _ (n p : ℕ) (ls : List Link) (fs : List Fun) (h : n ≤ 256) (g : p ≤
           let r = fun_range n p v k x y w t in
           rw (few_is v (omega (arith, r)), few_is x (omega (arith, r)), few_is y (omega (arith, r)), few_is w (omega (arith, r)))
 
-  pub said_link : (s : Shape) (l u v w : ℕ) → SaidLink l u v w ≡ said_of s → put (net n p ls fs) s ≡ put (net n p ls fs) (link_line (link l u v w))
+  pub said_link : (s : Shape) (l : said.Link) → Some (SaidLink l) ≡ said_of s → put (net n p ls fs) s ≡ put (net n p ls fs) (link_line (link_of l))
   unfolding said_of
-  said_link misshapen l u v w e = absurd (let z : ◌≡◌ {A = ℕ} 0 1 = cc in omega arith)
-  said_link (net_line a b) l u v w e = absurd (let z : ◌≡◌ {A = ℕ} 0 1 = cc in omega arith)
-  said_link (link_line (link a b c d)) l u v w e =
-      let f : link (few a) (few b) (few c) (few d) ≡ link l u v w = cc in
-      put_link a b c d ∙ ap (λ (r : Link). put (net n p ls fs) (link_line r)) f
-  said_link (fun_line (fun a k b c d)) l u v w e = absurd (let z : ◌≡◌ {A = ℕ} 0 1 = cc in omega arith)
+  said_link misshapen l e = absurd (cc)
+  said_link (net_line a b) l e = absurd (cc)
+  said_link (link_line (link a b c d)) l e =
+      let f : record { number = few a; from = few b; to = few c; weight = few d } ≡ l = cc in
+      put_link a b c d ∙ ap (λ (r : said.Link). put (net n p ls fs) (link_line (link_of r))) f
+  said_link (fun_line (fun a k b c d)) l e = absurd (cc)
 
-  pub said_fun : (s : Shape) (v k x y w : ℕ) → SaidFun v k x y w ≡ said_of s → put (net n p ls fs) s ≡ put (net n p ls fs) (fun_line (fun v (kind_of_code k) x y w))
+  pub said_fun : (s : Shape) (g : said_too.Fun) → Some (SaidFun g) ≡ said_of s → put (net n p ls fs) s ≡ put (net n p ls fs) (fun_line (fun_of g))
   unfolding said_of
-  said_fun misshapen v k x y w e = absurd (let z : ◌≡◌ {A = ℕ} 0 1 = cc in omega arith)
-  said_fun (net_line a b) v k x y w e = absurd (let z : ◌≡◌ {A = ℕ} 0 1 = cc in omega arith)
-  said_fun (link_line (link a b c d)) v k x y w e = absurd (let z : ◌≡◌ {A = ℕ} 0 1 = cc in omega arith)
-  said_fun (fun_line (fun a j b c d)) v k x y w e =
-      let i : k ≡ code j = cc in
-      let m : kind_of_code k ≡ j = rw i (kind_code j) in
-      let f : fun (few a) j (few b) (few c) (few d) ≡ fun v (kind_of_code k) x y w = cc in
-      put_fun a j b c d ∙ ap (λ (r : Fun). put (net n p ls fs) (fun_line r)) f
-    where
-      kind_code : (q : Kind) → kind_of_code (code q) ≡ q
-      kind_code conv = unfold kind_of_code in refl
-      kind_code wrap = unfold kind_of_code in refl
-      kind_code unwrap = unfold kind_of_code in refl
+  said_fun misshapen g e = absurd (cc)
+  said_fun (net_line a b) g e = absurd (cc)
+  said_fun (link_line (link a b c d)) g e = absurd (cc)
+  said_fun (fun_line (fun a k b c d)) g e =
+      let f : record { node = few a; kind = kind_told k; x = few b; y = few c; weight = few d } ≡ g = cc in
+      put_fun a k b c d ∙ rw (← kind_named k) (ap (λ (r : said_too.Fun). put (net n p ls fs) (fun_line (fun_of r))) f)
 
--- a kind is told as its code
-pub said_code : (s : Shape) (v k x y w : ℕ) → SaidFun v k x y w ≡ said_of s → k < 3
-unfolding said_of
-said_code misshapen v k x y w e = absurd (let z : ◌≡◌ {A = ℕ} 0 1 = cc in omega arith)
-said_code (net_line a b) v k x y w e = absurd (let z : ◌≡◌ {A = ℕ} 0 1 = cc in omega arith)
-said_code (link_line (link a b c d)) v k x y w e = absurd (let z : ◌≡◌ {A = ℕ} 0 1 = cc in omega arith)
-said_code (fun_line (fun a conv b c d)) v k x y w e = let i : k ≡ 0 = cc in omega arith
-said_code (fun_line (fun a wrap b c d)) v k x y w e = let i : k ≡ 1 = cc in omega arith
-said_code (fun_line (fun a unwrap b c d)) v k x y w e = let i : k ≡ 2 = cc in omega arith
+pub said_net : (k : Net) (s : Shape) (a b : ℕ) → Some (SaidNet a b) ≡ said_of s → put k s ≡ bad 2
+unfolding said_of put
+said_net k misshapen a b e = refl
+said_net k (net_line x y) a b e = refl
+said_net k (link_line (link x y z w)) a b e = absurd (cc)
+said_net k (fun_line (fun v j x y w)) a b e = absurd (cc)
 
-pub said_net : (k m : Net) (s : Shape) (a b : ℕ) → SaidNet a b ≡ said_of s → put k s ≡ after 2 m
-unfolding said_of put after
-said_net k m misshapen a b e = refl
-said_net k m (net_line x y) a b e = refl
-said_net k m (link_line (link x y z w)) a b e = absurd (let z : ◌≡◌ {A = ℕ} 0 1 = cc in omega arith)
-said_net k m (fun_line (fun v j x y w)) a b e = absurd (let z : ◌≡◌ {A = ℕ} 0 1 = cc in omega arith)
-
-pub said_none : (k m : Net) (s : Shape) → Misshapen ≡ said_of s → put k s ≡ after 2 m
-unfolding said_of put after
-said_none k m misshapen e = refl
-said_none k m (net_line x y) e = refl
-said_none k m (link_line (link x y z w)) e = absurd (let z : ◌≡◌ {A = ℕ} 0 1 = cc in omega arith)
-said_none k m (fun_line (fun v j x y w)) e = absurd (let z : ◌≡◌ {A = ℕ} 0 1 = cc in omega arith)
+pub said_none : (k : Net) (s : Shape) → None ≡ said_of s → put k s ≡ bad 2
+unfolding said_of put
+said_none k misshapen e = refl
+said_none k (net_line x y) e = refl
+said_none k (link_line (link x y z w)) e = absurd (cc)
+said_none k (fun_line (fun v j x y w)) e = absurd (cc)
 
 -- ## The first line
 
@@ -144,59 +133,38 @@ header_few n p = go (test (net_fits n p))
     go (fails t) = rw (net_few n p, t)
     go (holds t) = let r = net_range n p t in rw (few_is n (omega (arith, r.1)), few_is p (omega (arith, r.3)))
 
-header_said : (s : Shape) (n p : ℕ) → SaidNet n p ≡ said_of s → header s ≡ header (net_line n p)
+header_said : (s : Shape) (n p : ℕ) → Some (SaidNet n p) ≡ said_of s → header s ≡ header (net_line n p)
 unfolding said_of
-header_said misshapen n p e = absurd (let z : ◌≡◌ {A = ℕ} 0 1 = cc in omega arith)
+header_said misshapen n p e = absurd (cc)
 header_said (net_line a b) n p e = let f : net_line (few a) (few b) ≡ net_line n p = cc in header_few a b ∙ ap header f
-header_said (link_line (link a b c d)) n p e = absurd (let z : ◌≡◌ {A = ℕ} 0 1 = cc in omega arith)
-header_said (fun_line (fun a k b c d)) n p e = absurd (let z : ◌≡◌ {A = ℕ} 0 1 = cc in omega arith)
+header_said (link_line (link a b c d)) n p e = absurd (cc)
+header_said (fun_line (fun a k b c d)) n p e = absurd (cc)
 
-header_net : (s : Shape) (n p : ℕ) → SaidNet n p ≡ said_of s → net_fits n p ≡ true → header s ≡ after 0 (net n p [] [])
-unfolding header after
+pub header_net : (s : Shape) (n p : ℕ) → Some (SaidNet n p) ≡ said_of s → net_fits n p ≡ true → header s ≡ good (net n p [] [])
+unfolding header
 header_net s n p e f = header_said s n p e ∙ rw f
 
-header_wide : (s : Shape) (n p a b : ℕ) → SaidNet n p ≡ said_of s → net_fits n p ≡ false → header s ≡ after 3 (net a b [] [])
-unfolding header after
-header_wide s n p a b e f = header_said s n p e ∙ rw f
+pub header_wide : (s : Shape) (n p : ℕ) → Some (SaidNet n p) ≡ said_of s → net_fits n p ≡ false → header s ≡ bad 3
+unfolding header
+header_wide s n p e f = header_said s n p e ∙ rw f
 
-pub header_link : (s : Shape) (l u v w a b : ℕ) → SaidLink l u v w ≡ said_of s → header s ≡ after 2 (net a b [] [])
-unfolding said_of header after
-header_link misshapen l u v w a b e = refl
-header_link (net_line x y) l u v w a b e = absurd (let z : ◌≡◌ {A = ℕ} 0 1 = cc in omega arith)
-header_link (link_line (link x y z t)) l u v w a b e = refl
-header_link (fun_line (fun q j x y t)) l u v w a b e = refl
+pub header_link : (s : Shape) (l : said.Link) → Some (SaidLink l) ≡ said_of s → header s ≡ bad 2
+unfolding said_of header
+header_link misshapen l e = refl
+header_link (net_line x y) l e = absurd (cc)
+header_link (link_line (link x y z t)) l e = refl
+header_link (fun_line (fun q j x y t)) l e = refl
 
-pub header_fun : (s : Shape) (v k x y w a b : ℕ) → SaidFun v k x y w ≡ said_of s → header s ≡ after 2 (net a b [] [])
-unfolding said_of header after
-header_fun misshapen v k x y w a b e = refl
-header_fun (net_line n p) v k x y w a b e = absurd (let z : ◌≡◌ {A = ℕ} 0 1 = cc in omega arith)
-header_fun (link_line (link l u q t)) v k x y w a b e = refl
-header_fun (fun_line (fun q j s u t)) v k x y w a b e = refl
+pub header_fun : (s : Shape) (g : said_too.Fun) → Some (SaidFun g) ≡ said_of s → header s ≡ bad 2
+unfolding said_of header
+header_fun misshapen g e = refl
+header_fun (net_line n p) g e = absurd (cc)
+header_fun (link_line (link l u q t)) g e = refl
+header_fun (fun_line (fun q j s u t)) g e = refl
 
-pub header_none : (s : Shape) (a b : ℕ) → Misshapen ≡ said_of s → header s ≡ after 2 (net a b [] [])
-unfolding said_of header after
-header_none misshapen a b e = refl
-header_none (net_line n p) a b e = absurd (let z : ◌≡◌ {A = ℕ} 0 1 = cc in omega arith)
-header_none (link_line (link l u v w)) a b e = refl
-header_none (fun_line (fun v k x y w)) a b e = refl
-
-module _ (q : Shape) (n p m k : ℕ) (e : SaidNet n p ≡ said_of q) (f : m ≡ n) (g : k ≡ p) where
-  pub opens_net : net_fits m k ≡ true → Opens q (record { number = 0; size = record { nodes = m; protocols = k; links = 0; funs = 0 } })
-  opens_net t =
-      let r = net_range m k t in
-      record {
-        first = header_net q m k (rw (f, g) e) t;
-        nodes = λ _. r.1;
-        protocols = λ _. r.3;
-        no_links = refl;
-        no_funs = refl;
-      }
-
-opens_none : (q : Shape) (r : ℕ) (z : Size) → (r ≡ 0 → ⊥) → z ≡ nothing → header q ≡ after r (net 0 0 [] []) → Opens q (record { number = r; size = z })
-opens_none q r z h e f = rw e (record { first = f; nodes = λ k. absurd (h k); protocols = λ k. absurd (h k); no_links = refl; no_funs = refl })
-
-pub opens_wide : (q : Shape) (n p m k : ℕ) (z : Size) → SaidNet n p ≡ said_of q → m ≡ n → k ≡ p → net_fits m k ≡ false → z ≡ nothing → Opens q (record { number = 3; size = z })
-opens_wide q n p m k z e f g t h = opens_none q 3 z (λ i. absurd (omega arith)) h (header_wide q m k 0 0 (rw (f, g) e) t)
-
-pub opens_bad : (q : Shape) (z : Size) → z ≡ nothing → header q ≡ after 2 (net 0 0 [] []) → Opens q (record { number = 2; size = z })
-opens_bad q z h f = opens_none q 2 z (λ i. absurd (omega arith)) h f
+pub header_none : (s : Shape) → None ≡ said_of s → header s ≡ bad 2
+unfolding said_of header
+header_none misshapen e = refl
+header_none (net_line n p) e = absurd (cc)
+header_none (link_line (link l u v w)) e = refl
+header_none (fun_line (fun v k x y w)) e = refl

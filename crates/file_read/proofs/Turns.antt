@@ -1,42 +1,38 @@
 -- One line taken, on top of those above it: the fold goes on by one line, and the rooms hold what is kept. Assumes nothing.
 use mathlib.Core.Path.{◌≡◌, refl, sym, ap, ◌∙◌}
-use mathlib.Core.Bool.{cond}
 use mathlib.Core.List.{List, [], ◌∷◌}
 use Prim.Native.Nat.{ℕ, suc, ◌+◌, ◌≤◌, ◌<◌}
 use native.Mathlib.Omega.{arith}
 use native.Mathlib.Nat.{mul-le-mul_right, le_trans}
 use native.Mathlib.Numerals.{add-one}
-use lib.Dec.{eqb}
-use lib.ListN.{length}
-use borrow.Author.Tests.{le-ltb, eq-eqb, ne_eqb, eqb-true, eqb-false}
-use Rattle.paper.specs.Limits.{most_bytes}
+use lib.ListN.{length, drop}
+use Rattle.std.specs.Prelude.{Result, Ok, Err}
+use Rattle.std.proofs.lemmas.List.{drop_all}
 use Rattle.paper.specs.Net.{Net, net}
-use Rattle.paper.specs.Text.{Line, ended, cut, fields}
-use Rattle.paper.specs.File.{shaped, shape, Kept, bad, good, header, put, onward, from_top, refused, judge}
-use Rattle.laws.proofs.Before.{Test, holds, fails, test}
+use Rattle.paper.specs.Text.{Line, ended, cut, fields, lines, lines_on}
+use Rattle.paper.specs.File.{shaped, shape, Kept, bad, good, header, put, onward, from_top, refused, accepted}
+use Rattle.paper.specs.Faults.{number_of}
+use Rattle.paper.specs.declared.fault.Fault.{Fault}
+use Rattle.paper.specs.declared.fault.Refusal.{Refusal}
 use Rattle.laws.proofs.Fold.{onward_bad}
 use Rattle.network_records.specs.declared.Size.{Size}
 use Rattle.network_records.specs.Columns.{link_width, fun_width, link_key_width, fun_key_width, link_room, fun_room, link_at, fun_at, link_rows, fun_rows, net_of}
 use Rattle.network_records.proofs.Rows.{rows_none}
-use Rattle.digits.specs.Read.{part}
-use Rattle.file_cursor.specs.Line.{LineAt}
-use Rattle.file_keep.specs.Keep.{after, InOrder, Coded, Past}
+use Rattle.file_cursor.specs.Line.{Whole, Cut}
+use Rattle.file_keep.specs.Keep.{Past}
 use Rattle.file_keep.proofs.Records.{past_none, coded_none, in_order_none}
-use Rattle.file_read.specs.declared.Turn.{Turn}
-use Rattle.file_read.specs.declared.Reading.{Reading}
-use Rattle.file_read.specs.Judge.{lines_at, nothing, starting, Held, Untouched, Grown, Opens, Turned, Stands}
-use Rattle.file_read.proofs.Lines.{next_line, line_ended, line_cut}
+use Rattle.file_read.specs.Judge.{kept_of, refused_at, Bare, Held, Untouched, Grown}
 
 -- ## The rooms
 
-pub held_none : (y : Size) (ls fs : List ℕ) → y.nodes ≤ 256 → y.protocols ≤ 16 → y.links ≡ 0 → y.funs ≡ 0 → link_room ≤ length ls → fun_room ≤ length fs → Held y ls fs
-held_none y ls fs n p c d h g =
+held_bare : (y : Size) (ls fs : List ℕ) → Bare y → link_room ≤ length ls → fun_room ≤ length fs → Held y ls fs
+held_bare y ls fs o h g =
     record {
-      nodes = n;
-      protocols = p;
-      links = rw c (in_order_none link_width link_key_width ls h);
-      funs = rw d (in_order_none fun_width fun_key_width fs g);
-      codes = rw d (coded_none fs);
+      nodes = o.nodes;
+      protocols = o.protocols;
+      links = rw o.no_links (in_order_none link_width link_key_width ls h);
+      funs = rw o.no_funs (in_order_none fun_width fun_key_width fs g);
+      codes = rw o.no_funs (coded_none fs);
     }
 
 untouched_none : (z : Size) (ls fs : List ℕ) → Untouched z ls ls fs fs
@@ -53,214 +49,83 @@ untouched_then y z ls ms ns fs gs hs h g p q =
       past_funs = past_then fun_width y.funs z.funs fs gs hs g p.past_funs q.past_funs;
     }
 
-module _ (y : Size) (ls fs : List ℕ) (o : Held y ls fs) where
-  pub grown_link : (ms : List ℕ) → InOrder link_width link_key_width (y.links + 1) ms → Past link_width (y.links + 1) ls ms
-      → Grown y ls fs (record { nodes = y.nodes; protocols = y.protocols; links = y.links + 1; funs = y.funs }) ms fs
-  grown_link ms h g =
-      record {
-        more_links = omega arith;
-        more_funs = omega arith;
-        held = record { nodes = o.nodes; protocols = o.protocols; links = h; funs = o.funs; codes = o.codes };
-        past = record { past_links = g; past_funs = past_none fun_width y.funs fs };
-      }
-
-  pub grown_fun : (gs : List ℕ) → InOrder fun_width fun_key_width (y.funs + 1) gs → Coded (y.funs + 1) gs → Past fun_width (y.funs + 1) fs gs
-      → Grown y ls fs (record { nodes = y.nodes; protocols = y.protocols; links = y.links; funs = y.funs + 1 }) ls gs
-  grown_fun gs h k g =
-      record {
-        more_links = omega arith;
-        more_funs = omega arith;
-        held = record { nodes = o.nodes; protocols = o.protocols; links = o.links; funs = h; codes = k };
-        past = record { past_links = past_none link_width y.links ls; past_funs = g };
-      }
-
--- ## The first line, and one below it
-
-opens_in : (z : Size) (ls fs : List ℕ) → z.links ≡ 0 → z.funs ≡ 0 → net z.nodes z.protocols [] [] ≡ net_of z ls fs
+-- the network of the first line alone, whatever is in the rooms
+pub bare_net : (n p : ℕ) (ls fs : List ℕ) → net n p [] [] ≡ net_of (record { nodes = n; protocols = p; links = 0; funs = 0 }) ls fs
 unfolding net_of link_rows fun_rows
-opens_in z ls fs c d = sym (rw (c, d, rows_none (link_at ls) 0, rows_none (fun_at fs) 0))
-
-module _ (l : List ℕ) (e : ℕ) (y : Size) (ls fs : List ℕ) (t : Turn) where
-  pub turned_first : (a : ℕ) → a ≡ 0 → y ≡ nothing → Held y ls fs → Opens (shaped (fields (part l 0 e))) t → Turned l a e y ls fs t ls fs
-  turned_first a z none o h =
-      record {
-        first = λ _. h.first ∙ ap (after t.number) (opens_in t.size ls fs h.no_links h.no_funs);
-        below = λ n. absurd (n z);
-        grown =
-            λ q.
-            record {
-              more_links = rw none (omega arith);
-              more_funs = rw none (omega arith);
-              held =
-                  held_none t.size ls fs (h.nodes q) (h.protocols q) h.no_links h.no_funs o.links.room o.funs.room;
-              past = untouched_none t.size ls fs;
-            };
-      }
-
-  pub turned_below : (a : ℕ) (ms gs : List ℕ) → (a ≡ 0 → ⊥) → put (net_of y ls fs) (shaped (fields (part l a e))) ≡ after t.number (net_of t.size ms gs)
-      → (t.number ≡ 0 → Grown y ls fs t.size ms gs) → Turned l a e y ls fs t ms gs
-  turned_below a ms gs n p g = record { first = λ z. absurd (n z); below = λ _. p; grown = g }
+bare_net n p ls fs = sym (rw (rows_none (link_at ls) 0, rows_none (fun_at fs) 0))
 
 -- ## The fold
 
-after_zero : (r : ℕ) (m : Net) → r ≡ 0 → after r m ≡ good m
-unfolding after
-after_zero r m e = rw (eq-eqb r 0 e)
+module _ (l : List ℕ) (a : ℕ) where
+  module _ (text : List ℕ) (b : ℕ) (w : Whole l a text b) where
+    pub whole_on : (i : ℕ) (k : Net) (r : Kept) → put k (shaped (fields text)) ≡ r → onward i (lines (drop a l)) (good k) ≡ onward (i + 1) (lines (drop b l)) r
+    unfolding onward shape
+    whole_on i k r e = rw w.first (ap (λ (q : Kept). onward (suc i) (lines (drop b l)) q) e ∙ ap (λ (j : ℕ). onward j (lines (drop b l)) r) (sym (add-one i)))
 
-after_bad : (r : ℕ) (m : Net) → (r ≡ 0 → ⊥) → after r m ≡ bad r
-unfolding after
-after_bad r m e = rw (ne_eqb r 0 e)
+    pub whole_top : (r : Kept) → a ≡ 0 → header (shaped (fields text)) ≡ r → from_top (lines l) ≡ onward 1 (lines (drop b l)) r
+    unfolding from_top shape
+    whole_top r z e = let f : lines l ≡ ended text ∷ lines (drop b l) = rw z at w.first in rw (f, e)
 
-one_on : (i : ℕ) (x : Line) (xs : List Line) (k : Net) (r : Kept) → put k (shape x) ≡ r → onward i (x ∷ xs) (good k) ≡ onward (i + 1) xs r
-unfolding onward
-one_on i x xs k r e = ap (λ (q : Kept). onward (suc i) xs q) e ∙ ap (λ (j : ℕ). onward j xs r) (sym (add-one i))
+  pub cut_on : (i d : ℕ) (k : Net) (xs : List Line) → d ≡ 2 → Cut l a → a < length l → onward i (lines (drop a l)) (good k) ≡ onward (i + 1) xs (bad d)
+  unfolding onward shape put
+  cut_on i d k xs z c h = rw (c h, z) (ap (λ (j : ℕ). refused 2 j) (sym (add-one i)) ∙ sym (onward_bad (i + 1) 2 xs))
 
-top_on : (l : List ℕ) (x : Line) (xs : List Line) (k : Kept) → length l ≤ most_bytes → lines_at l 0 ≡ x ∷ xs → header (shape x) ≡ k → judge l ≡ onward 1 xs k
-unfolding judge lines_at from_top
-top_on l x xs k s e f = rw (le-ltb 65536 (length l) s, e, f)
-
-cut_bad : (k : Net) (w : List ℕ) → put k (shape (cut w)) ≡ bad 2
-unfolding put shape
-cut_bad k w = refl
-
-cut_top : (w : List ℕ) → header (shape (cut w)) ≡ bad 2
-unfolding header shape
-cut_top w = refl
+  pub cut_top : (d : ℕ) (xs : List Line) → a ≡ 0 → d ≡ 2 → Cut l a → from_top (lines l) ≡ onward 1 xs (bad d)
+  unfolding from_top header shape lines lines_on
+  cut_top d xs z y c = go l refl
+    where
+      go : (m : List ℕ) → m ≡ l → from_top (lines l) ≡ onward 1 xs (bad d)
+      go [] e = rw (← e, y) (sym (onward_bad 1 2 xs))
+      go (b ∷ m) e =
+          let h : 0 < length l = rw (← e) (omega arith) in
+          let f : lines l ≡ cut l ∷ [] = rw z at c h in
+          rw (f, y) (onward_bad 1 2 [] ∙ sym (onward_bad 1 2 xs))
 
 -- ## The lines, one after another
 
-pub stands_first : (l ls fs : List ℕ) (s : Reading) → s ≡ starting → link_room ≤ length ls → fun_room ≤ length fs → Stands l ls fs 0 s ls fs
-stands_first l ls fs s e h g =
-    rw e
-    (record {
-      within = omega arith;
-      counted = omega arith;
-      link_size = refl;
-      fun_size = refl;
-      top = λ _. refl;
-      held = λ _. held_none nothing ls fs (omega arith) (omega arith) refl refl h g;
-      past = λ _. untouched_none nothing ls fs;
-      on = λ _ n. absurd (n refl);
-      off = λ n. absurd (n refl);
-    })
+-- the lines of l before byte a, i of them, come to z in ms and gs, which were ls and fs
+pub record Stands (l ls fs : List ℕ) (i a : ℕ) (z : Size) (ms gs : List ℕ) : Type 0 where
+  pub within : a ≤ length l
+  -- a line is a byte at least, so that the lines can be counted
+  pub counted : i ≤ a
+  pub on : from_top (lines l) ≡ onward i (lines (drop a l)) (good (net_of z ms gs))
+  pub held : Held z ms gs
+  pub past : Untouched z ls ms fs gs
 
-module _ (l ls fs : List ℕ) (a : ℕ) (s : Reading) (ms gs : List ℕ) (i : Stands l ls fs a s ms gs) where
-  -- before the file's end nothing is refused
-  pub still_good : a < length l → s.number ≡ 0
-  still_good h = go (test (eqb s.number 0))
-    where
-      go : Test (eqb s.number 0) → s.number ≡ 0
-      go (holds t) = eqb-true s.number 0 t
-      go (fails t) = absurd (let z = (i.off (eqb-false s.number 0 t)).0 in omega arith)
+pub stands_first : (l ls fs : List ℕ) (a : ℕ) (z : Size) → link_room ≤ length ls → fun_room ≤ length fs → Bare z → 0 < a → a ≤ length l
+    → from_top (lines l) ≡ onward 1 (lines (drop a l)) (good (net_of z ls fs)) → Stands l ls fs 1 a z ls fs
+stands_first l ls fs a z h g o m n e = record { within = n; counted = m; on = e; held = held_bare z ls fs o h g; past = untouched_none z ls fs }
 
-  pub stands_here : Stands l ms gs a s ms gs
-  stands_here =
+pub header_off : (l ls fs : List ℕ) (t : Result Size Fault) (r : Refusal) (xs : List Line) → from_top (lines l) ≡ onward 1 xs (kept_of t ls fs)
+    → (t ≡ Err r.fault) × (r.line ≡ 1) → refused (number_of r.fault) r.line ≡ from_top (lines l)
+header_off l ls fs t r xs e f = rw f.1 (sym ((rw f.0 at e) ∙ onward_bad 1 (number_of r.fault) xs))
+
+module _ (l ls fs : List ℕ) (i a : ℕ) (z : Size) (ms gs : List ℕ) (s : Stands l ls fs i a z ms gs) where
+  pub stands_on : (b : ℕ) (y : Size) (ns hs : List ℕ) → a < b → b ≤ length l → Grown z ms gs y ns hs
+      → onward i (lines (drop a l)) (good (net_of z ms gs)) ≡ onward (i + 1) (lines (drop b l)) (good (net_of y ns hs)) → Stands l ls fs (i + 1) b y ns hs
+  stands_on b y ns hs h g grown e =
       record {
-        within = i.within;
-        counted = i.counted;
-        link_size = refl;
-        fun_size = refl;
-        top = i.top;
-        held = i.held;
-        past = λ _. untouched_none s.size ms gs;
-        on = i.on;
-        off = i.off;
+        within = g;
+        counted = omega (arith, s.counted);
+        on = s.on ∙ e;
+        held = grown.held;
+        past = untouched_then z y ls ms ns fs gs hs grown.more_links grown.more_funs s.past grown.past;
       }
 
-  -- the file's end is reached
-  pub stands_end : length l ≤ a → Stands l ls fs (length l) s ms gs
-  stands_end h = let e : length l ≡ a = omega (arith, i.within) in rw e i
+  pub stands_off : (t : Result Size Fault) (r : Refusal) (xs : List Line) (ns hs : List ℕ) → onward i (lines (drop a l)) (good (net_of z ms gs)) ≡ onward (i + 1) xs (kept_of t ns hs)
+      → (t ≡ Err r.fault) × (r.line ≡ i + 1) → refused (number_of r.fault) r.line ≡ from_top (lines l)
+  stands_off t r xs ns hs e f = rw f.1 (sym (s.on ∙ (rw f.0 at e) ∙ onward_bad (i + 1) (number_of r.fault) xs))
 
-  module _ (h : a < length l) (small : length l ≤ most_bytes) (e b : ℕ) (o : LineAt l a e b) where
-    first_line : a ≡ 0 → s.line ≡ 0
-    first_line z = ap (λ (r : Reading). r.line) (i.top z)
+  pub stands_end : length l ≤ a → accepted (net_of z ms gs) ≡ from_top (lines l)
+  unfolding onward lines
+  stands_end h = sym (s.on ∙ rw (drop_all a l h))
 
-    -- the line lacks its LF
-    pub stands_cut : e ≡ length l → (r : Reading) → r ≡ record { number = 2; line = s.line + 1; next = e; size = s.size } → Stands l ls fs r.next r ms gs
-    stands_cut q r same =
-        rw same
-        (record {
-          within = omega arith;
-          counted = omega (arith, i.counted);
-          link_size = i.link_size;
-          fun_size = i.fun_size;
-          top = λ z. absurd (omega arith);
-          held = λ z. absurd (omega arith);
-          past = λ z. absurd (omega arith);
-          on = λ z. absurd (omega arith);
-          off = λ _. (q, go (test (eqb a 0)));
-        })
-      where
-        go : Test (eqb a 0) → judge l ≡ refused 2 (s.line + 1)
-        go (holds t) =
-            let z = eqb-true a 0 t in
-            let c = line_cut l 0 e b (omega arith) (rw z at o) (omega arith) q in
-            top_on l (cut (part l 0 e)) [] (bad 2) small c (cut_top (part l 0 e)) ∙ rw (first_line z) (onward_bad 1 2 [])
-        go (fails t) =
-            let c = line_cut l a e b (omega arith) o (omega arith) q in
-            i.on (still_good h) (eqb-false a 0 t)
-            ∙ rw c (one_on s.line (cut (part l a e)) [] (net_of s.size ms gs) (bad 2) (cut_bad (net_of s.size ms gs) (part l a e)))
-            ∙ onward_bad (s.line + 1) 2 []
+-- ## A fault, with its line
 
-    module _ (q : e ≡ length l → ⊥) (t : Turn) (ns hs : List ℕ) (turned : Turned l a e s.size ms gs t ns hs) where
-      -- the file comes to what the lines below this one come to, where it gave k
-      below : (k : Kept) → after t.number (net_of t.size ns hs) ≡ k → judge l ≡ onward (s.line + 1) (lines_at l b) k
-      unfolding shape
-      below k p = go (test (eqb a 0))
-        where
-          go : Test (eqb a 0) → judge l ≡ onward (s.line + 1) (lines_at l b) k
-          go (holds z') =
-              let z = eqb-true a 0 z' in
-              rw (first_line z)
-              (top_on l (ended (part l 0 e)) (lines_at l b) k small (line_ended l 0 e b (omega arith) (rw z at o) q) (turned.first z ∙ p))
-          go (fails n) =
-              i.on (still_good h) (eqb-false a 0 n)
-              ∙ rw (line_ended l a e b (omega arith) o q) (one_on s.line (ended (part l a e)) (lines_at l b) (net_of s.size ms gs) k (turned.below (eqb-false a 0 n) ∙ p))
+pub kept_at : (i : ℕ) (t : Result Size Fault) (z : Size) → Ok z ≡ refused_at i t → t ≡ Ok z
+kept_at i (Ok y) z e = cc
+kept_at i (Err f) z e = absurd (cc)
 
-      onto : a < b
-      onto = let g = o.found (omega arith) in omega (arith, g.low, next_line l a e b (omega arith) o q)
-
-      not_past : b ≤ length l
-      not_past = omega (arith, o.next)
-
-      pub further : (n : ℕ) → n ≡ cond (eqb t.number 0) b (length l) → a < n
-      further n p = go (test (eqb t.number 0))
-        where
-          go : Test (eqb t.number 0) → a < n
-          go (holds z) = let at_b : n ≡ b = p ∙ rw z in rw at_b onto
-          go (fails z) = let at_end : n ≡ length l = p ∙ rw z in rw at_end h
-
-      pub stands_on : length ns ≡ length ms → length hs ≡ length gs → (n : ℕ) → n ≡ cond (eqb t.number 0) b (length l)
-          → (r : Reading) → r ≡ record { number = t.number; line = s.line + 1; next = n; size = t.size } → Stands l ls fs r.next r ns hs
-      stands_on sl sf n p r same = rw same (go (test (eqb t.number 0)))
-        where
-          go : Test (eqb t.number 0) → Stands l ls fs n (record { number = t.number; line = s.line + 1; next = n; size = t.size }) ns hs
-          go (holds z) =
-              let zero = eqb-true t.number 0 z in
-              let at_b : n ≡ b = p ∙ rw z in
-              let g = turned.grown zero in
-              record {
-                within = rw at_b not_past;
-                counted = omega (arith, i.counted, onto, at_b);
-                link_size = sl ∙ i.link_size;
-                fun_size = sf ∙ i.fun_size;
-                top = λ k. absurd (omega (arith, onto, at_b));
-                held = λ _. g.held;
-                past = λ _. untouched_then s.size t.size ls ms ns fs gs hs g.more_links g.more_funs (i.past (still_good h)) g.past;
-                on = λ _ _. rw at_b (below (good (net_of t.size ns hs)) (after_zero t.number (net_of t.size ns hs) zero));
-                off = λ k. absurd (k zero);
-              }
-          go (fails z) =
-              let bad-one = eqb-false t.number 0 z in
-              let at_end : n ≡ length l = p ∙ rw z in
-              record {
-                within = omega arith;
-                counted = omega (arith, i.counted);
-                link_size = sl ∙ i.link_size;
-                fun_size = sf ∙ i.fun_size;
-                top = λ k. absurd (omega arith);
-                held = λ k. absurd (bad-one k);
-                past = λ k. absurd (bad-one k);
-                on = λ k. absurd (bad-one k);
-                off = λ _. (at_end, below (bad t.number) (after_bad t.number (net_of t.size ns hs) bad-one) ∙ onward_bad (s.line + 1) t.number (lines_at l b));
-              }
+pub bad_at : (i : ℕ) (t : Result Size Fault) (r : Refusal) → Err r ≡ refused_at i t → (t ≡ Err r.fault) × (r.line ≡ i)
+bad_at i (Ok y) r e = absurd (cc)
+bad_at i (Err f) r e = let g : r ≡ record { fault = f; line = i } = cc in (ap (λ (q : Refusal). Err q.fault) (sym g), ap (λ (q : Refusal). q.line) g)

@@ -1,270 +1,159 @@
-// The network file, read line by line: number and line of a refusal, or the records in normal order, in columns.
+// The network file, read line by line: fault and line of a refusal, or the records in normal order, in columns.
 #![tactic(auto)]
 
-ghost use Rattle.std.specs.Prelude.{◌≡◌, List, cond, ℕ, ◌≤◌, ◌<◌, eqb, length};
+ghost use Rattle.std.specs.Prelude.{◌≡◌, List, ℕ, ◌+◌, ◌≤◌, ◌<◌, length, drop, IfOk, OnOk, MatchResult};
 ghost use Rattle.paper.specs.Limits.{most_bytes};
-ghost use Rattle.paper.specs.Text.{fields};
-ghost use Rattle.paper.specs.File.{net_fits, shaped, put, judge};
-ghost use Rattle.digits.specs.Read.{part};
+ghost use Rattle.paper.specs.Text.{fields, lines};
+ghost use Rattle.paper.specs.File.{net_fits, shaped, header, put, onward, good, from_top, judge};
+ghost use Rattle.paper.specs.Faults.{number_of};
 ghost use Rattle.network_records.specs.Columns.{link_room, fun_room, net_of};
 ghost use Rattle.network_records.specs.Valid.{Valid};
-ghost use Rattle.file_keep.specs.Keep.{after};
-ghost use Rattle.file_read.specs.Judge.{judged_of, nothing, refusal, starting, Plain, Held, Untouched, Grown, Opens, Turned, Stands};
+ghost use Rattle.file_cursor.specs.Line.{Whole, Cut};
+ghost use Rattle.file_read.specs.Judge.{kept_of, judged_of, refused_at, Bare, Held, Untouched, Grown, Onto};
 
-use file_cursor::{line_at, moved, new};
+use file_cursor::Cursor;
 use file_keep::{put_fun, put_link};
 use file_lines::{Said, read_line};
-use network_records::{Size, index};
+use network_records::Size;
+use paper::fault::{Fault, Refusal};
 use paper::limits::MOST_BYTES;
 use paper::place::Place;
 
-fn empty() -> Size
-    ensures { result ≡ nothing }
-{
-    Size {
-        nodes: 0,
-        protocols: 0,
-        links: 0,
-        funs: 0,
-    }
-}
-
 // ---- one line
 
-// What a line comes to: its number, and how large the network is with it.
-#[derive(Clone, Copy)]
-struct Turn {
-    number: u32,
-    size: Size,
+#[tactic(auto, unfolding(paper::specs::File::net_fits))]
+fn net_fits(nodes: usize, protocols: usize) -> bool
+    ensures { result ≡ net_fits nodes protocols }
+{
+    (1..=Place::NODES).contains(&nodes)
+        && (1..=Place::PROTOCOLS).contains(&protocols)
+        && nodes * protocols <= Place::PLACES
 }
 
-fn net_fits(n: usize, p: usize) -> bool
-    ensures { result ≡ net_fits n p }
+// The first line.
+fn read_header(line: &[u8]) -> Result<Size, Fault>
+    ensures opens { (ls fs : List ℕ) → header (shaped (fields line.now)) ≡ kept_of result ls fs }
+    ensures bare { IfOk result Bare }
 {
-    if n < 1 {
-        return false;
-    }
-    if Place::NODES < n {
-        return false;
-    }
-    if p < 1 {
-        return false;
-    }
-    if Place::PROTOCOLS < p {
-        return false;
-    }
-    n * p <= Place::PLACES
-}
-
-// The first line, whose LF is at byte e.
-fn read_header(file: &[u8], e: usize) -> Turn
-    requires { e < length file.now }
-    ensures { Opens (shaped (fields (part file.now 0 e))) result }
-{
-    let s = read_line(file, 0, e);
-    match s {
-        Said::Net(n, p) => {
-            let nodes = index(n);
-            let protocols = index(p);
-            if net_fits(nodes, protocols) {
-                let size = Size {
-                    nodes,
-                    protocols,
-                    links: 0,
-                    funs: 0,
-                };
-                return Turn { number: 0, size };
+    match read_line(line) {
+        Some(Said::Net(nodes, protocols)) => {
+            let nodes = nodes as usize;
+            let protocols = protocols as usize;
+            if !net_fits(nodes, protocols) {
+                return Err(Fault::OutOfRange);
             }
-            Turn {
-                number: 3,
-                size: empty(),
-            }
+            Ok(Size {
+                nodes,
+                protocols,
+                links: 0,
+                funs: 0,
+            })
         }
-        Said::Link(_, _, _, _) => Turn {
-            number: 2,
-            size: empty(),
-        },
-        Said::Fun(_, _, _, _, _) => Turn {
-            number: 2,
-            size: empty(),
-        },
-        Said::Misshapen => Turn {
-            number: 2,
-            size: empty(),
-        },
+        Some(Said::Link(_)) => Err(Fault::Misshapen),
+        Some(Said::Fun(_)) => Err(Fault::Misshapen),
+        None => Err(Fault::Misshapen),
     }
 }
 
-// A line below the first, from byte a up to its LF at byte e, on top of what is kept.
-fn read_record(
-    file: &[u8],
-    a: usize,
-    e: usize,
-    z: Size,
-    links: &mut [u32],
-    funs: &mut [u32],
-) -> Turn
-    requires { (a ≤ e) × (e < length file.now) × Held z links.old funs.old }
-    ensures e_value { put (net_of z links.old funs.old) (shaped (fields (part file.now a e))) ≡ after result.number (net_of result.size links.new funs.new) }
-    ensures grown { result.number ≡ 0 → Grown z links.old funs.old result.size links.new funs.new }
+// A line below the first, on top of what is kept.
+fn read_record(line: &[u8], size: Size, links: &mut [u32], funs: &mut [u32]) -> Result<Size, Fault>
+    requires { Held size links.old funs.old }
+    ensures adds { put (net_of size links.old funs.old) (shaped (fields line.now)) ≡ kept_of result links.new funs.new }
+    ensures grown { IfOk result (λ z. Grown size links.old funs.old z links.new funs.new) }
 {
-    let n = z.nodes as u32;
-    let p = z.protocols as u32;
-    let s = read_line(file, a, e);
-    match s {
-        Said::Link(l, u, v, w) => {
-            let number = put_link(links, z.links, n, l, u, v, w);
-            let size = Size {
-                nodes: z.nodes,
-                protocols: z.protocols,
-                links: z.links + 1,
-                funs: z.funs,
-            };
-            Turn { number, size }
+    match read_line(line) {
+        Some(Said::Link(link)) => {
+            put_link(links, size, link)?;
+            Ok(Size {
+                links: size.links + 1,
+                ..size
+            })
         }
-        Said::Fun(v, k, x, y, w) => {
-            let number = put_fun(funs, z.funs, n, p, v, k, x, y, w);
-            let size = Size {
-                nodes: z.nodes,
-                protocols: z.protocols,
-                links: z.links,
-                funs: z.funs + 1,
-            };
-            Turn { number, size }
+        Some(Said::Fun(fun)) => {
+            put_fun(funs, size, fun)?;
+            Ok(Size {
+                funs: size.funs + 1,
+                ..size
+            })
         }
-        Said::Net(_, _) => Turn { number: 2, size: z },
-        Said::Misshapen => Turn { number: 2, size: z },
+        Some(Said::Net(_, _)) => Err(Fault::Misshapen),
+        None => Err(Fault::Misshapen),
     }
-}
-
-// The line from byte a up to its LF at byte e: the first, or one below it.
-fn read_turn(file: &[u8], a: usize, e: usize, z: Size, links: &mut [u32], funs: &mut [u32]) -> Turn
-    requires { (a ≤ e) × (e < length file.now) × Held z links.old funs.old × (a ≡ 0 → z ≡ nothing) }
-    ensures { Turned file.now a e z links.old funs.old result links.new funs.new }
-{
-    if a == 0 {
-        return read_header(file, e);
-    }
-    read_record(file, a, e, z, links, funs)
 }
 
 // ---- the lines, one after another
 
-// What the lines so far come to: number 0, or number and line of a refusal; how many lines there were, where the next one starts,
-// which is the file's end after a refusal, and how large the network is.
-#[derive(Clone, Copy)]
-struct Reading {
-    number: u32,
-    line: u32,
-    next: usize,
+// The line at the cursor, which goes past it; each line ends in an LF.
+fn take<'a>(cursor: &mut Cursor<'a>) -> Result<&'a [u8], Fault>
+    ensures { MatchResult result (λ text. Whole cursor.old.file.now cursor.old.at text.now cursor.new.at × (cursor.new.file ≡ cursor.old.file)) (λ fault. (number_of fault ≡ 2) × Cut cursor.old.file.now cursor.old.at) }
+{
+    let line = cursor.line().ok_or(Fault::Misshapen)?;
+    cursor.move_to(line.next);
+    Ok(line.text)
+}
+
+fn take_header(cursor: &mut Cursor<'_>) -> Result<Size, Fault>
+    requires { cursor.old.at ≡ 0 }
+    ensures opens { (ls fs : List ℕ) → from_top (lines cursor.old.file.now) ≡ onward 1 (lines (drop cursor.new.at cursor.old.file.now)) (kept_of result ls fs) }
+    ensures bare { IfOk result Bare }
+    ensures onto { OnOk result (Onto cursor.old cursor.new) }
+{
+    let line = take(cursor)?;
+    read_header(line)
+}
+
+fn take_record(
+    cursor: &mut Cursor<'_>,
     size: Size,
-}
-
-fn start() -> Reading
-    ensures { result ≡ starting }
+    links: &mut [u32],
+    funs: &mut [u32],
+) -> Result<Size, Fault>
+    requires { (cursor.old.at < length cursor.old.file.now) × Held size links.old funs.old }
+    ensures adds { (i : ℕ) → onward i (lines (drop cursor.old.at cursor.old.file.now)) (good (net_of size links.old funs.old)) ≡ onward (i + 1) (lines (drop cursor.new.at cursor.old.file.now)) (kept_of result links.new funs.new) }
+    ensures grown { IfOk result (λ z. Grown size links.old funs.old z links.new funs.new) }
+    ensures onto { OnOk result (Onto cursor.old cursor.new) }
 {
-    Reading {
-        number: 0,
-        line: 0,
-        next: 0,
-        size: empty(),
-    }
+    let line = take(cursor)?;
+    read_record(line, size, links, funs)
 }
 
-// Where the next line starts; after a refusal none does.
-fn next_line(number: u32, next: usize, end: usize) -> usize
-    ensures { result ≡ cond (eqb number 0) next end }
+// A fault of this line refuses the file.
+fn at_line(line: u32, read: Result<Size, Fault>) -> Result<Size, Refusal>
+    ensures { result ≡ refused_at line read }
 {
-    if number == 0 {
-        return next;
-    }
-    end
+    read.map_err(|fault| Refusal { fault, line })
 }
 
-// The line at a place of the file, on top of those above it.
-fn take_line(file: &[u8], at: usize, s: Reading, links: &mut [u32], funs: &mut [u32]) -> Reading
-    requires { (at < length file.now) × (length file.now ≤ most_bytes) × Stands file.now links.old funs.old at s links.old funs.old }
-    ensures { ((ls fs : List ℕ) → Stands file.now ls fs at s links.old funs.old → Stands file.now ls fs result.next result links.new funs.new) × (at < result.next) }
-{
-    let line = s.line + 1;
-    let size = s.size;
-    let here = line_at(file, at);
-    let e = here.end;
-    if e == file.len() {
-        return Reading {
-            number: 2,
-            line,
-            next: e,
-            size,
-        };
-    }
-    let t = read_turn(file, at, e, size, links, funs);
-    let next = next_line(t.number, here.next, file.len());
-    let size = t.size;
-    Reading {
-        number: t.number,
-        line,
-        next,
-        size,
-    }
-}
-
-// All lines of a file.
-fn read_lines(file: &[u8], links: &mut [u32], funs: &mut [u32]) -> Reading
+// All lines of a file. A file of no byte lacks its first line.
+fn read_lines(file: &[u8], links: &mut [u32], funs: &mut [u32]) -> Result<Size, Refusal>
     requires { (length file.now ≤ most_bytes) × (link_room ≤ length links.old) × (fun_room ≤ length funs.old) }
-    ensures { Stands file.now links.old funs.old (length file.now) result links.new funs.new }
+    ensures judged { judged_of result links.new funs.new ≡ from_top (lines file.now) }
+    ensures held { IfOk result (λ z. Held z links.new funs.new × Untouched z links.old links.new funs.old funs.new) }
 {
-    let mut c = new(file);
-    let mut s = start();
-    while c.at < file.len() {
-        s = take_line(c.file, c.at, s, links, funs);
-        c = moved(c, s.next);
+    let mut cursor = Cursor::new(file);
+    let mut line = 1;
+    let mut size = at_line(line, take_header(&mut cursor))?;
+    while cursor.at < file.len() {
+        line += 1;
+        size = at_line(line, take_record(&mut cursor, size, links, funs))?;
     }
-    s
+    Ok(size)
 }
 
 // ---- the file
 
-// What the file comes to: number and line of a refusal; or number 0, and how large the network is.
-#[derive(Clone, Copy)]
-pub struct Judgement {
-    pub number: u32,
-    pub line: u32,
-    pub size: Size,
-}
-
-fn refused(number: u32, line: u32) -> Judgement
-    ensures { result ≡ refusal number line }
-{
-    Judgement {
-        number,
-        line,
-        size: empty(),
-    }
-}
-
-// The whole file. A file of no byte lacks its first line.
-pub fn read(file: &[u8], links: &mut [u32], funs: &mut [u32]) -> Judgement
+// The whole file: how large the network is, or why it is refused, and at which line.
+pub fn read(file: &[u8], links: &mut [u32], funs: &mut [u32]) -> Result<Size, Refusal>
     requires { (link_room ≤ length links.old) × (fun_room ≤ length funs.old) }
-    ensures judged { judged_of result.number result.line (net_of result.size links.new funs.new) ≡ judge file.now }
-    ensures plain { Plain result }
-    ensures valid { result.number ≡ 0 → Valid result.size links.new funs.new }
-    ensures untouched { result.number ≡ 0 → Untouched result.size links.old links.new funs.old funs.new }
+    ensures judged { judged_of result links.new funs.new ≡ judge file.now }
+    ensures valid { IfOk result (λ z. Valid z links.new funs.new) }
+    ensures untouched { IfOk result (λ z. Untouched z links.old links.new funs.old funs.new) }
 {
     if MOST_BYTES < file.len() {
-        return refused(1, 0);
+        return Err(Refusal {
+            fault: Fault::TooLong,
+            line: 0,
+        });
     }
-    if file.len() == 0 {
-        return refused(2, 1);
-    }
-    let s = read_lines(file, links, funs);
-    if s.number != 0 {
-        return refused(s.number, s.line);
-    }
-    let size = s.size;
-    Judgement {
-        number: 0,
-        line: 0,
-        size,
-    }
+    read_lines(file, links, funs)
 }

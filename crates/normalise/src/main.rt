@@ -11,8 +11,7 @@ fn normalise(rt: &impl Print, file: &[u8], text: &mut [u8]) -> io::Result<()> {
     if outcome.number != 0 {
         return write_reply(rt, b"badnet", outcome.number, outcome.line);
     }
-    let length = outcome.length;
-    rt.write_all(&text[..length])
+    rt.write_all(&text[0..outcome.length])
 }
 
 fn main(rt: HostRuntime) -> io::Result<()> {

@@ -6,10 +6,10 @@ use Rattle.paper.specs.Text.{number, fields, same, bytes}
 use Rattle.paper.specs.Program.{asks_of, asked_by}
 use Rattle.digits.specs.Read.{told}
 use Rattle.file_fields.specs.Fields.{field_of, numbers}
-use Rattle.program_asks.specs.declared.Ask.{Ask}
+use Rattle.paper.specs.declared.place.Enquiry.{Enquiry}
 use Rattle.program_asks.specs.Asked.{ask_of}
 
-abbrev pub ask : List ℕ → Ask
+abbrev pub ask : List ℕ → Enquiry
 ask vs = record { start = record { node = get_or vs 0 0; protocol = get_or vs 1 0 }; end = record { node = get_or vs 2 0; protocol = get_or vs 3 0 } }
 
 module _ (l : List ℕ) where

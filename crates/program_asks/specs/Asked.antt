@@ -2,8 +2,8 @@
 use Rattle.std.specs.Prelude.{Option, Some, None}
 use Rattle.paper.specs.Program.{Asked, misshapen, asks}
 use Rattle.digits.specs.Read.{few}
-use Rattle.program_asks.specs.declared.Ask.{Ask}
+use Rattle.paper.specs.declared.place.Enquiry.{Enquiry}
 
-unfoldable pub ask_of : Asked → Option Ask
+unfoldable pub ask_of : Asked → Option Enquiry
 ask_of misshapen = None
 ask_of (asks S a D b) = Some (record { start = record { node = few S; protocol = few a }; end = record { node = few D; protocol = few b } })

@@ -1,6 +1,9 @@
--- What stands in the weight and count rooms. Assumes nothing: this is a definition.
-use Rattle.std.specs.Prelude.{ℕ, List}
+-- The rooms that are written stay those that were lent. Assumes nothing: this is a definition.
+use Rattle.std.specs.Prelude.{◌≡◌, length}
+use Rattle.tables_costs.specs.declared.rooms.TablesMut.{TablesMut}
 
-pub record Rooms : Type 0 where
-  pub weight : List ℕ
-  pub count : List ℕ
+-- the rooms of t are those of s, and as long
+abbrev pub SameRooms : TablesMut → TablesMut → Type 0
+SameRooms s t =
+    (t.weight.ghost_name ≡ s.weight.ghost_name) × (t.count.ghost_name ≡ s.count.ghost_name)
+    × (length t.weight.now ≡ length s.weight.now) × (length t.count.now ≡ length s.count.now)

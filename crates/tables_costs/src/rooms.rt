@@ -3,58 +3,42 @@ ghost use Rattle.std.specs.Prelude.{◌≡◌, ◌<◌, ◌≤◌, eqb, length, 
 ghost use Rattle.paper.specs.Limits.{never_mark};
 ghost use Rattle.tables_costs.specs.Cells.{cells, lowered};
 ghost use Rattle.tables_costs.specs.Costs.{far, cost_at};
+ghost use Rattle.tables_costs.specs.Rooms.{SameRooms};
 
 use crate::cost::cost_of;
 use crate::entry::Entry;
 use paper::limits::NEVER_MARK;
-use std::marker::Model;
 
-// The rooms, to be read. Clauses see the two lists that stand in them.
-#[derive(Drop)]
+// The rooms, to be read.
+#[derive(Clone, Copy)]
 pub struct Tables<'a> {
-    weight: &'a [u32],
-    count: &'a [u16],
+    pub weight: &'a [u32],
+    pub count: &'a [u16],
 }
 
-impl<'a> Model for Tables<'a> {
-    ghost use Rattle.tables_costs.specs.Rooms.{Rooms};
-
-    ghost Value = { Rooms };
-
-    ghost view = { λ t. record { weight = t.weight.now; count = t.count.now } };
-}
-
-impl<'a> Tables<'a> {
-    pub fn new(weight: &'a [u32], count: &'a [u16]) -> Tables<'a>
-        ensures { (result.weight ≡ weight.now) × (result.count ≡ count.now) }
-    {
-        Tables { weight, count }
-    }
-
+impl Tables<'_> {
     pub fn read(&self, i: usize) -> Entry
-        requires { (i < length self.now.weight) × (i < length self.now.count) }
-        ensures { (result.weight ≡ get_or self.now.weight i 0) × (result.count ≡ get_or self.now.count i 0) }
+        requires { (i < length self.now.weight.now) × (i < length self.now.count.now) }
+        ensures { (result.weight ≡ get_or self.now.weight.now i 0) × (result.count ≡ get_or self.now.count.now i 0) }
     {
-        let (weight, count) = (self.weight, self.count);
         Entry {
-            weight: weight[i],
-            count: count[i],
+            weight: self.weight[i],
+            count: self.count[i],
         }
     }
 
     // Whether entry i says that there is no route.
     pub fn is_never(&self, i: usize) -> bool
-        requires { i < length self.now.weight }
-        ensures { result ≡ eqb (get_or self.now.weight i 0) never_mark }
+        requires { i < length self.now.weight.now }
+        ensures { result ≡ eqb (get_or self.now.weight.now i 0) never_mark }
     {
-        let weight = self.weight;
-        weight[i] == NEVER_MARK
+        self.weight[i] == NEVER_MARK
     }
 
     #[tactic(auto, unfolding(crate::specs::Costs::cost_at))]
     pub fn cost_at(&self, i: usize) -> u64
-        requires { (i < length self.now.weight) × (i < length self.now.count) }
-        ensures { (result ≡ cost_at self.now.weight self.now.count i) × (result ≤ far) }
+        requires { (i < length self.now.weight.now) × (i < length self.now.count.now) }
+        ensures { (result ≡ cost_at self.now.weight.now self.now.count.now i) × (result ≤ far) }
     {
         cost_of(self.read(i))
     }
@@ -67,19 +51,22 @@ pub struct TablesMut<'a> {
     pub count: &'a mut [u16],
 }
 
-impl<'a> TablesMut<'a> {
+impl TablesMut<'_> {
     // The same rooms, to be read.
     pub fn to_read(&self) -> Tables<'_>
-        ensures { (result.weight ≡ self.now.weight.now) × (result.count ≡ self.now.count.now) }
+        ensures { (result.weight.now ≡ self.now.weight.now) × (result.count.now ≡ self.now.count.now) }
     {
-        Tables::new(self.weight, self.count)
+        Tables {
+            weight: self.weight,
+            count: self.count,
+        }
     }
 
     // Stores e at i where it is lighter than what stands there. The result: whether this or anything earlier fell.
     #[tactic(auto, unfolding(crate::specs::Cells::lowered, crate::specs::Cells::less))]
     pub fn lower(&mut self, i: usize, e: Entry, fell: bool) -> bool
         requires { (i < length self.old.weight.now) × (i < length self.old.count.now) }
-        ensures same_rooms { (self.new.weight.ghost_name ≡ self.old.weight.ghost_name) × (self.new.count.ghost_name ≡ self.old.count.ghost_name) }
+        ensures same_rooms { SameRooms self.old self.new }
         ensures lowered { cells self.new.weight.now self.new.count.now result ≡ lowered i e.weight e.count (cells self.old.weight.now self.old.count.now fell) }
     {
         if e < self.to_read().read(i) {

@@ -1,11 +1,13 @@
 // The rooms before the first sweep: no route anywhere, but the route of no steps from each place to itself.
 ghost use Rattle.std.specs.Prelude.{◌≡◌, false, ◌*◌, ◌≤◌, length};
 ghost use Rattle.tables_costs.specs.Cells.{cells};
+ghost use Rattle.tables_costs.specs.Rooms.{SameRooms};
 ghost use Rattle.tables_sweeps.specs.Sweep.{cleared, diagonal};
 ghost use Rattle.tables_spread.specs.Asked.{Roomy};
 
 use paper::limits::NEVER_MARK;
-use tables_costs::entry::{Entry, lower, row_of};
+use tables_costs::entry::{Entry, row_of};
+use tables_costs::rooms::TablesMut;
 
 // The first m entries say that there is no route.
 fn clear(weight: &mut [u32], count: &mut [u16], m: usize)
@@ -18,15 +20,14 @@ fn clear(weight: &mut [u32], count: &mut [u16], m: usize)
 
 // The entries of each place with itself.
 #[tactic(auto, using(tables_sweeps::proofs::Loops::turns), unfolding(tables_sweeps::specs::Sweep::diagonal))]
-fn stay(weight: &mut [u32], count: &mut [u16], size: usize) -> bool
-    requires { Roomy size weight.old count.old }
-    ensures { cells weight.new count.new result ≡ diagonal size (cells weight.old count.old false) }
+fn stay(tables: &mut TablesMut, size: usize) -> bool
+    requires { Roomy size tables.old.weight.now tables.old.count.now }
+    ensures same_rooms { SameRooms tables.old tables.new }
+    ensures stays { cells tables.new.weight.now tables.new.count.now result ≡ diagonal size (cells tables.old.weight.now tables.old.count.now false) }
 {
     let mut any = false;
     for k in 0..size {
-        any = lower(
-            weight,
-            count,
+        any = tables.lower(
             row_of(size, k) + k,
             Entry {
                 weight: 0,
@@ -38,10 +39,11 @@ fn stay(weight: &mut [u32], count: &mut [u16], size: usize) -> bool
     any
 }
 
-pub fn prepare(weight: &mut [u32], count: &mut [u16], size: usize) -> bool
-    requires { Roomy size weight.old count.old }
-    ensures { cells weight.new count.new result ≡ diagonal size (cleared (size * size) (cells weight.old count.old false)) }
+pub fn prepare(tables: &mut TablesMut, size: usize) -> bool
+    requires { Roomy size tables.old.weight.now tables.old.count.now }
+    ensures same_rooms { SameRooms tables.old tables.new }
+    ensures prepared { cells tables.new.weight.now tables.new.count.now result ≡ diagonal size (cleared (size * size) (cells tables.old.weight.now tables.old.count.now false)) }
 {
-    clear(weight, count, size * size);
-    stay(weight, count, size)
+    clear(tables.weight, tables.count, size * size);
+    stay(tables, size)
 }

@@ -1,15 +1,15 @@
 -- The two answers: the text goes into its room, or the room stays. Assumes nothing.
 use Prim.Native.Nat.{ℕ, ◌<◌, ◌≤◌}
 use mathlib.Core.Path.{◌≡◌, sym, ◌∙◌}
-use mathlib.Core.Bool.{true, false}
+use native.Mathlib.Omega.{arith}
 use mathlib.Core.List.{List}
 use lib.ListN.{length}
 use borrow.Author.Tests.{le-leb, lt-leb}
+use Rattle.std.specs.Prelude.{Option, Some, None}
 use Rattle.paper.specs.declared.place.Place.{Place}
 use Rattle.digits.specs.Write.{Put}
 use Rattle.trace_replay.specs.Packet.{Route}
 use Rattle.trace_replay.proofs.Ways.{feasible_route}
-use Rattle.trace.specs.declared.Traced.{Traced}
 use Rattle.trace.specs.Told.{Traceable, Told}
 
 pub known : {g : List ℕ} {start : Place} {q : List ℕ} {k w : ℕ} → Traceable g start q k w → Route g start q k
@@ -17,12 +17,12 @@ known {g} {start} {q} {k} {w} given = feasible_route g start q k given.end.node 
 
 -- m is the length of the text t, x the text room, y what becomes of it
 module _ (m : ℕ) (t x : List ℕ) (is : m ≡ length t) where
-  pub too_long : length x < m → Told x x t (record { fits = false; length = 0 })
-  too_long h = let e = lt-leb (length t) (length x) (rw is at h) in record { fits = rw e; bytes = rw e; text = rw e }
+  pub too_long : length x < m → Told x x t None
+  too_long h = let e = lt-leb (length t) (length x) (rw is at h) in record { fits = rw e; text = rw e }
 
-  pub written_out : (y : List ℕ) (j : ℕ) → m ≤ length x → Put x y 0 j t → Told x y t (record { fits = true; length = m })
-  written_out y j h put = let e = le-leb (length t) (length x) (rw is at h) in record { fits = rw e; bytes = rw e is; text = rw e put.text }
+  pub written_out : (y : List ℕ) (j : ℕ) → m ≤ length x → Put x y 0 j t → Told x y t (Some j)
+  written_out y j h put = let e = le-leb (length t) (length x) (rw is at h) in let n : j ≡ length t = omega (arith, put.next) in record { fits = rw (e, n); text = rw e put.text }
 
 -- no second answer fits
-pub told_once : {x y z t : List ℕ} {r s : Traced} → Told x y t r → Told x z t s → (y ≡ z) × (r ≡ s)
-told_once a b = (a.text ∙ sym b.text, λ i. record { fits = (a.fits ∙ sym b.fits) i; length = (a.bytes ∙ sym b.bytes) i })
+pub told_once : {x y z t : List ℕ} {r s : Option ℕ} → Told x y t r → Told x z t s → (y ≡ z) × (r ≡ s)
+told_once a b = (a.text ∙ sym b.text, a.fits ∙ sym b.fits)

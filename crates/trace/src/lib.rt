@@ -3,41 +3,24 @@
 
 ghost use Rattle.paper.specs.Trace.{trace};
 ghost use Rattle.network.specs.Network.{hop_in};
-ghost use Rattle.trace_replay.specs.Keys.{keys_at};
+ghost use Rattle.trace_replay.specs.Keys.{keys};
 ghost use Rattle.trace.specs.Told.{Traceable, Told};
 
 use crate::write::write_trace;
-use paper::place::Place;
+use network::Network;
 use trace_measure::trace_length;
+use trace_replay::steps::Steps;
 
 pub mod write;
 
-// Whether the trace fitted its room, and the bytes written.
-#[derive(Clone, Copy)]
-pub struct Traced {
-    pub fits: bool,
-    pub length: usize,
-}
-
-// The trace of the route in the step room, from `start` with a stack holding only its protocol; a room that is too short stays as it is.
-pub fn trace(
-    net: &[u32],
-    start: Place,
-    weight: u32,
-    step: &[u16],
-    steps: usize,
-    text: &mut [u8],
-) -> Traced
-    requires { Traceable net.now start step.now steps weight }
-    ensures { Told text.old text.new (trace (hop_in net.now) start.node start.protocol (keys_at step.now steps) weight) result }
+// The trace of the route in the step room, from its start with a stack holding only its protocol: how many bytes it has, or none where the text room is too short and stays as it is.
+pub fn trace(net: &Network, steps: &Steps, weight: u32, text: &mut [u8]) -> Option<usize>
+    requires { Traceable net.now steps.now.start steps.now.room.now steps.now.count weight }
+    ensures { Told text.old text.new (trace (hop_in net.now) steps.now.start.node steps.now.start.protocol (keys steps.now) weight) result }
 {
-    let length = trace_length(net, start, weight, step, steps);
+    let length = trace_length(net, steps, weight);
     if text.len() < length {
-        return Traced {
-            fits: false,
-            length: 0,
-        };
+        return None;
     }
-    write_trace(net, start, weight, step, steps, text);
-    Traced { fits: true, length }
+    Some(write_trace(net, steps, weight, text))
 }

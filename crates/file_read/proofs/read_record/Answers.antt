@@ -1,26 +1,38 @@
 -- The line is put on top of what is kept, as its kind of line is. Assumes nothing.
-use mathlib.Core.Path.{sym, ◌∙◌}
-use native.Mathlib.Omega.{arith}
+use mathlib.Core.Path.{◌∙◌}
 use Rattle.network_records.specs.Columns.{net_of}
-use Rattle.file_read.proofs.Told.{said_link, said_fun, said_code, said_net, said_none}
-use Rattle.file_read.proofs.Turns.{grown_link, grown_fun}
+use Rattle.std.proofs.lemmas.Result.{err_from_is_err_and}
+use Rattle.file_read.proofs.Told.{said_link, said_fun, said_net, said_none}
 use Rattle.file_read.proofs.read_record.Goals as goal
 
-pub put_fun-number-requires : goal.put_fun-number-requires
-put_fun-number-requires c = let o = c.requires.2 in (o.funs, o.codes, said_code _ _ _ _ _ _ (sym c.in-Fun.is ∙ c.read_line-s.ensures))
-
-pub returns-in-Link : goal.returns-in-Link
+pub returns-in_ok-put_link-in-Some-Link-clause-adds : goal.returns-in_ok-put_link-in-Some-Link-clause-adds
 unfolding net_of
-returns-in-Link c = let o = c.requires.2 in let put = c.put_link-number.ensures in
-    record { e_value = said_link _ _ _ _ o.nodes o.protocols _ _ _ _ _ (sym c.in-Link.is ∙ c.read_line-s.ensures) ∙ put.number _ _; grown = λ z. grown_link _ _ _ o _ (put.kept.0 z) put.kept.1 }
+returns-in_ok-put_link-in-Some-Link-clause-adds c =
+    let o = c.requires in
+    said_link _ _ _ _ o.nodes o.protocols _ _ (rw c.in-Some-Link.field-0-is at c.in-Some-Link.ensures) ∙ c.in_ok-put_link-in-Some-Link.ensures.fault _ _
 
-pub returns-in-Fun : goal.returns-in-Fun
+pub returns-in_ok-put_fun-in-Some-Fun-clause-adds : goal.returns-in_ok-put_fun-in-Some-Fun-clause-adds
 unfolding net_of
-returns-in-Fun c = let o = c.requires.2 in let put = c.put_fun-number.ensures in
-    record { e_value = said_fun _ _ _ _ o.nodes o.protocols _ _ _ _ _ _ (sym c.in-Fun.is ∙ c.read_line-s.ensures) ∙ put.number _; grown = λ z. grown_fun _ _ _ o _ (put.kept.0 z).0 (put.kept.0 z).1 put.kept.1 }
+returns-in_ok-put_fun-in-Some-Fun-clause-adds c =
+    let o = c.requires in
+    said_fun _ _ _ _ o.nodes o.protocols _ _ (rw c.in-Some-Fun.field-0-is at c.in-Some-Fun.ensures) ∙ c.in_ok-put_fun-in-Some-Fun.ensures.fault _
 
-pub returns-in-Net : goal.returns-in-Net
-returns-in-Net c = record { e_value = said_net _ _ _ _ _ (sym c.in-Net.is ∙ c.read_line-s.ensures); grown = λ z. absurd (omega arith) }
+pub returns-in_err-put_link-in-Some-Link-clause-adds : goal.returns-in_err-put_link-in-Some-Link-clause-adds
+unfolding net_of
+returns-in_err-put_link-in-Some-Link-clause-adds c =
+    let o = c.requires in
+    let p = err_from_is_err_and c.from_residual.result c.from_residual.ensures.1 in
+    rw (p.1, p.2) (said_link _ _ _ _ o.nodes o.protocols _ _ (rw c.in-Some-Link.field-0-is at c.in-Some-Link.ensures) ∙ c.in_err-put_link-in-Some-Link.ensures.fault _ _)
 
-pub returns-in-Misshapen : goal.returns-in-Misshapen
-returns-in-Misshapen c = record { e_value = said_none _ _ _ (sym c.in-Misshapen.is ∙ c.read_line-s.ensures); grown = λ z. absurd (omega arith) }
+pub returns-in_err-put_fun-in-Some-Fun-clause-adds : goal.returns-in_err-put_fun-in-Some-Fun-clause-adds
+unfolding net_of
+returns-in_err-put_fun-in-Some-Fun-clause-adds c =
+    let o = c.requires in
+    let p = err_from_is_err_and c.from_residual-in_err-put_fun-in-Some-Fun.result c.from_residual-in_err-put_fun-in-Some-Fun.ensures.1 in
+    rw (p.1, p.2) (said_fun _ _ _ _ o.nodes o.protocols _ _ (rw c.in-Some-Fun.field-0-is at c.in-Some-Fun.ensures) ∙ c.in_err-put_fun-in-Some-Fun.ensures.fault _)
+
+pub returns-in-Some-Net-clause-adds : goal.returns-in-Some-Net-clause-adds
+returns-in-Some-Net-clause-adds c = said_net _ _ _ _ (rw c.in-Some-Net.field-0-is at c.in-Some-Net.ensures)
+
+pub returns-in-None-clause-adds : goal.returns-in-None-clause-adds
+returns-in-None-clause-adds c = said_none _ _ c.in-None.ensures

@@ -5,4 +5,4 @@ use mathlib.Core.Path.{◌≡◌}
 use Rattle.tables_spread.proofs.go_on_all.Given as goal
 
 abbrev pub invariant-loop-r : goal.invariant-loop-r
-invariant-loop-r l = (length l.y ≡ length l.initial.y) × (l.y ≡ upto (onward l.weight l.count l.size l.a) l.r l.initial.y)
+invariant-loop-r l = (length l.y ≡ length l.initial.y) × (l.y ≡ upto (onward l.tables.weight.now l.tables.count.now l.size l.a) l.r l.initial.y)

@@ -1,5 +1,5 @@
 -- Too long, or written. Assumes nothing.
-use native.Mathlib.Omega.{arith}
+use Rattle.std.proofs.Common.{arith}
 use Rattle.trace.proofs.Answers.{known, too_long, written_out}
 use Rattle.trace.proofs.trace.Goals as goal
 
