@@ -14,15 +14,15 @@ use tables_costs::cost::FAR;
 pub fn over_exit(solved: &Solved, row: usize, exit: &Exit) -> u64
     requires row { row + places solved.now.net.now ≤ places solved.now.net.now * places solved.now.net.now }
     requires exit { (exit.now.place < places solved.now.net.now) × (exit.now.cost ≤ far) }
-    ensures { result ≡ told_at solved.now.tables.now.weight solved.now.tables.now.count (row + exit.now.place) + exit.now.cost }
+    ensures { result ≡ told_at solved.now.tables.weight.now solved.now.tables.count.now (row + exit.now.place) + exit.now.cost }
 {
-    told_at(solved.tables, row + exit.place) + exit.cost
+    told_at(&solved.tables, row + exit.place) + exit.cost
 }
 
 // From the place whose row begins at `row`, over the best of the exits.
 pub fn finish(solved: &Solved, exits: &[Exit], row: usize) -> u64
     requires { Ranged (places solved.now.net.now) exits.now × (row + places solved.now.net.now ≤ places solved.now.net.now * places solved.now.net.now) }
-    ensures { (result ≡ finishing solved.now.tables.now.weight solved.now.tables.now.count exits.now row) × (result ≤ far) }
+    ensures { (result ≡ finishing solved.now.tables.weight.now solved.now.tables.count.now exits.now row) × (result ≤ far) }
 {
     let mut best = FAR;
     for exit in exits {

@@ -22,8 +22,8 @@ fn left_at(level: &Record) -> u64
 
 // Place e, if it is an exit of the level, where `left` was left at the beginning.
 fn list_place(tables: &Tables, size: usize, level: &Record, left: u64, e: usize, exits: &mut Exits)
-    requires { Reading size tables.now.weight tables.now.count level.now.choice.now level.now.at × (left ≡ left_at level.now.choice.now level.now.at) × Gathered (LeavesBy size tables.now.weight tables.now.count level.now.choice.now level.now.at) e exits.old }
-    ensures { Gathered (LeavesBy size tables.now.weight tables.now.count level.now.choice.now level.now.at) (e + 1) exits.new }
+    requires { Reading size tables.now.weight.now tables.now.count.now level.now.choice.now level.now.at × (left ≡ left_at level.now.choice.now level.now.at) × Gathered (LeavesBy size tables.now.weight.now tables.now.count.now level.now.choice.now level.now.at) e exits.old }
+    ensures { Gathered (LeavesBy size tables.now.weight.now tables.now.count.now level.now.choice.now level.now.at) (e + 1) exits.new }
 {
     if size <= e {
         return;
@@ -43,8 +43,8 @@ fn list_place(tables: &Tables, size: usize, level: &Record, left: u64, e: usize,
 
 // The places of word q: a word of zeros marks none.
 fn list_word(tables: &Tables, size: usize, level: &Record, left: u64, q: usize, exits: &mut Exits)
-    requires { Reading size tables.now.weight tables.now.count level.now.choice.now level.now.at × (left ≡ left_at level.now.choice.now level.now.at) × (q < words_for size) × Gathered (LeavesBy size tables.now.weight tables.now.count level.now.choice.now level.now.at) (16 * q) exits.old }
-    ensures { Gathered (LeavesBy size tables.now.weight tables.now.count level.now.choice.now level.now.at) (16 * (q + 1)) exits.new }
+    requires { Reading size tables.now.weight.now tables.now.count.now level.now.choice.now level.now.at × (left ≡ left_at level.now.choice.now level.now.at) × (q < words_for size) × Gathered (LeavesBy size tables.now.weight.now tables.now.count.now level.now.choice.now level.now.at) (16 * q) exits.old }
+    ensures { Gathered (LeavesBy size tables.now.weight.now tables.now.count.now level.now.choice.now level.now.at) (16 * (q + 1)) exits.new }
 {
     if level.word(q) == 0 {
         return;
@@ -56,8 +56,8 @@ fn list_word(tables: &Tables, size: usize, level: &Record, left: u64, q: usize, 
 
 // Lists the exits of a level of `size` places.
 pub fn list_level(tables: &Tables, size: usize, level: &Record, exits: &mut Exits)
-    requires { Reading size tables.now.weight tables.now.count level.now.choice.now level.now.at }
-    ensures { Ranged size exits.new × Lists (Leaves size tables.now.weight tables.now.count level.now.choice.now level.now.at) exits.new }
+    requires { Reading size tables.now.weight.now tables.now.count.now level.now.choice.now level.now.at }
+    ensures { Ranged size exits.new × Lists (Leaves size tables.now.weight.now tables.now.count.now level.now.choice.now level.now.at) exits.new }
 {
     exits.clear();
     let left = left_at(level);

@@ -9,7 +9,7 @@ use tables_costs::rooms::Tables;
 #[derive(Clone, Copy)]
 pub struct Solved<'a> {
     pub net: &'a Network<'a>,
-    pub tables: &'a Tables<'a>,
+    pub tables: Tables<'a>,
     pub ghost arranged: { Arranged net.now },
-    pub ghost square: { Square (places net.now) tables.now.weight tables.now.count },
+    pub ghost square: { Square (places net.now) tables.weight.now tables.count.now },
 }

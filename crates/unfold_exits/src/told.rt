@@ -21,8 +21,8 @@ fn told_by(e: Entry) -> u64
 // What the tables tell of the pair of places whose entry is at i.
 #[tactic(auto, unfolding(crate::specs::Cost::told_at))]
 pub fn told_at(tables: &Tables, i: usize) -> u64
-    requires { (i < length tables.now.weight) × (i < length tables.now.count) }
-    ensures { (result ≡ told_at tables.now.weight tables.now.count i) × (result ≤ far) }
+    requires { (i < length tables.now.weight.now) × (i < length tables.now.count.now) }
+    ensures { (result ≡ told_at tables.now.weight.now tables.now.count.now i) × (result ≤ far) }
 {
     told_by(tables.read(i))
 }

@@ -15,7 +15,7 @@ use tables_costs::entry::row_of;
 // Over link i, and then to the level's end.
 fn cross(solved: &Solved, exits: &[Exit], x: usize, i: usize) -> u64
     requires { (i < links solved.now.net.now) × Crossing solved.now.net.now exits.now x }
-    ensures { result ≡ crossed solved.now.net.now solved.now.tables.now.weight solved.now.tables.now.count exits.now x i }
+    ensures { result ≡ crossed solved.now.net.now solved.now.tables.weight.now solved.now.tables.count.now exits.now x i }
 {
     let net = solved.net;
     let to = Place {
@@ -28,8 +28,8 @@ fn cross(solved: &Solved, exits: &[Exit], x: usize, i: usize) -> u64
 
 // Link i, for the node that it leaves.
 fn land(solved: &Solved, exits: &[Exit], x: usize, i: usize, lands: &mut [u64])
-    requires { (i < links solved.now.net.now) × Crossing solved.now.net.now exits.now x × Landed solved.now.net.now solved.now.tables.now.weight solved.now.tables.now.count exits.now x i lands.old }
-    ensures { Landed solved.now.net.now solved.now.tables.now.weight solved.now.tables.now.count exits.now x (i + 1) lands.new }
+    requires { (i < links solved.now.net.now) × Crossing solved.now.net.now exits.now x × Landed solved.now.net.now solved.now.tables.weight.now solved.now.tables.count.now exits.now x i lands.old }
+    ensures { Landed solved.now.net.now solved.now.tables.weight.now solved.now.tables.count.now exits.now x (i + 1) lands.new }
 {
     let from = solved.net.link_from(i);
     lands[from] = cross(solved, exits, x, i).min(lands[from]);
@@ -37,8 +37,8 @@ fn land(solved: &Solved, exits: &[Exit], x: usize, i: usize, lands: &mut [u64])
 
 // Over the best link of each node: every link is crossed once, however many functions unwrap there.
 fn land_all(solved: &Solved, exits: &[Exit], x: usize, lands: &mut [u64])
-    requires { Crossing solved.now.net.now exits.now x × Landed solved.now.net.now solved.now.tables.now.weight solved.now.tables.now.count exits.now x 0 lands.old }
-    ensures { Landed solved.now.net.now solved.now.tables.now.weight solved.now.tables.now.count exits.now x (links solved.now.net.now) lands.new }
+    requires { Crossing solved.now.net.now exits.now x × Landed solved.now.net.now solved.now.tables.weight.now solved.now.tables.count.now exits.now x 0 lands.old }
+    ensures { Landed solved.now.net.now solved.now.tables.weight.now solved.now.tables.count.now exits.now x (links solved.now.net.now) lands.new }
 {
     for i in 0..solved.net.links() {
         land(solved, exits, x, i, lands);
@@ -81,7 +81,7 @@ fn list_funs(solved: &Solved, lands: &[u64], x: usize, outs: &mut Exits)
 // Lists the exits of a tunnel over x, opened from the level whose exits are listed.
 pub fn list_tunnel(solved: &Solved, exits: &[Exit], x: usize, outs: &mut Exits)
     requires { Crossing solved.now.net.now exits.now x }
-    ensures { Ranged (places solved.now.net.now) outs.new × Gathered (Unwraps solved.now.net.now solved.now.tables.now.weight solved.now.tables.now.count exits.now x) (funs solved.now.net.now) outs.new }
+    ensures { Ranged (places solved.now.net.now) outs.new × Gathered (Unwraps solved.now.net.now solved.now.tables.weight.now solved.now.tables.count.now exits.now x) (funs solved.now.net.now) outs.new }
 {
     let mut lands = [FAR; 256];
     land_all(solved, exits, x, &mut lands);

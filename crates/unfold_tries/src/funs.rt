@@ -73,7 +73,7 @@ fn try_fun(
     best: Step,
 ) -> Step
     requires { (j < funs solved.now.net.now) × (node solved.now.net.now j ≡ at.node) × Trying solved.now.net.now exits.now at }
-    ensures { Better (ByFun solved.now.net.now solved.now.tables.now.weight solved.now.tables.now.count exits.now at kind hidden j) best result }
+    ensures { Better (ByFun solved.now.net.now solved.now.tables.weight.now solved.now.tables.count.now exits.now at kind hidden j) best result }
 {
     let net = solved.net;
     let x = sought_by(kind, at.protocol, hidden);
@@ -96,7 +96,7 @@ pub fn try_funs(
     best: Step,
 ) -> Step
     requires { Trying solved.now.net.now exits.now at }
-    ensures { Better (Any (ByFun solved.now.net.now solved.now.tables.now.weight solved.now.tables.now.count exits.now at kind hidden) (funs solved.now.net.now)) best result }
+    ensures { Better (Any (ByFun solved.now.net.now solved.now.tables.weight.now solved.now.tables.count.now exits.now at kind hidden) (funs solved.now.net.now)) best result }
 {
     let mut found = best;
     let own = solved.net.funs_of(at.node);

@@ -27,7 +27,7 @@ fn key_over(net: &Network, i: usize, f: Use) -> [u16; 4]
 // The cost of the step over link i, and of finishing from where it leads.
 fn way_over(solved: &Solved, exits: &[Exit], f: Use, i: usize) -> u64
     requires { (i < links solved.now.net.now) × Ranged (places solved.now.net.now) exits.now × Usable solved.now.net.now f }
-    ensures { result ≡ way_over solved.now.net.now solved.now.tables.now.weight solved.now.tables.now.count exits.now f i }
+    ensures { result ≡ way_over solved.now.net.now solved.now.tables.weight.now solved.now.tables.count.now exits.now f i }
 {
     let net = solved.net;
     let to = Place {
@@ -42,7 +42,7 @@ fn way_over(solved: &Solved, exits: &[Exit], f: Use, i: usize) -> u64
 // The better of `best` and the step over link i of the node, if that passes.
 fn try_link(solved: &Solved, exits: &[Exit], at: Spot, f: Use, i: usize, best: Step) -> Step
     requires { (i < links solved.now.net.now) × (from solved.now.net.now i ≡ at.node) × Trying solved.now.net.now exits.now at × Usable solved.now.net.now f }
-    ensures { Better (OverLink solved.now.net.now solved.now.tables.now.weight solved.now.tables.now.count exits.now at f i) best result }
+    ensures { Better (OverLink solved.now.net.now solved.now.tables.weight.now solved.now.tables.count.now exits.now at f i) best result }
 {
     let net = solved.net;
     let key = key_over(net, i, f);
@@ -66,7 +66,7 @@ fn try_link(solved: &Solved, exits: &[Exit], at: Spot, f: Use, i: usize, best: S
 // The better of `best` and the steps over each link of the node that pass.
 pub fn try_links(solved: &Solved, exits: &[Exit], at: Spot, f: Use, best: Step) -> Step
     requires { Trying solved.now.net.now exits.now at × Usable solved.now.net.now f }
-    ensures { Better (Any (OverLink solved.now.net.now solved.now.tables.now.weight solved.now.tables.now.count exits.now at f) (links solved.now.net.now)) best result }
+    ensures { Better (Any (OverLink solved.now.net.now solved.now.tables.weight.now solved.now.tables.count.now exits.now at f) (links solved.now.net.now)) best result }
 {
     let mut found = best;
     let own = solved.net.links_of(at.node);
