@@ -13,6 +13,7 @@ use paper::fault::Refusal;
 use paper::outcome::Outcome;
 
 // How long the normal file of an accepted file is, where the room holds it; the columns lent are scratch.
+#[tactic(auto, using(crate::proofs::Answers::answer_refused))]
 fn normal_in(
     file: &[u8],
     links: &mut [u32],
