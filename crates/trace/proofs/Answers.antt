@@ -1,11 +1,15 @@
 -- The two answers: the text goes into its room, or the room stays. Assumes nothing.
 use Prim.Native.Nat.{ℕ, ◌<◌, ◌≤◌}
-use mathlib.Core.Path.{◌≡◌, sym, ◌∙◌}
+use mathlib.Core.Path.{◌≡◌, refl, sym, ◌∙◌}
 use native.Mathlib.Omega.{arith}
+use mathlib.Core.Bool.{Bool, true, false}
 use mathlib.Core.List.{List}
 use lib.ListN.{length}
-use borrow.Author.Tests.{le-leb, lt-leb}
+use lib.Dec.{leb}
+use borrow.Author.Tests.{le-leb, lt-leb, leb-true, leb-false}
 use Rattle.std.specs.Prelude.{Option, Some, None}
+use Rattle.std.proofs.lemmas.Option.{none-some, same_Some}
+use Rattle.paper.specs.Rooms.{laid}
 use Rattle.paper.specs.declared.place.Place.{Place}
 use Rattle.digits.specs.Write.{Put}
 use Rattle.trace_replay.specs.Packet.{Route}
@@ -26,3 +30,19 @@ module _ (m : ℕ) (t x : List ℕ) (is : m ≡ length t) where
 -- no second answer fits
 pub told_once : {x y z t : List ℕ} {r s : Option ℕ} → Told x y t r → Told x z t s → (y ≡ z) × (r ≡ s)
 told_once a b = (a.text ∙ sym b.text, a.fits ∙ sym b.fits)
+
+-- what either answer tells
+module _ {x y t : List ℕ} where
+  pub told_some : (n : ℕ) → Told x y t (Some n) → (length t ≤ length x) × (n ≡ length t) × (y ≡ laid x 0 t)
+  told_some n told = go (leb (length t) (length x)) refl
+    where
+      go : (b : Bool) → leb (length t) (length x) ≡ b → (length t ≤ length x) × (n ≡ length t) × (y ≡ laid x 0 t)
+      go true e = (leb-true (length t) (length x) e, same_Some n (length t) (rw e at told.fits), rw e at told.text)
+      go false e = absurd (none-some n (sym (rw e at told.fits)))
+
+  pub told_none : Told x y t None → (length x < length t) × (y ≡ x)
+  told_none told = go (leb (length t) (length x)) refl
+    where
+      go : (b : Bool) → leb (length t) (length x) ≡ b → (length x < length t) × (y ≡ x)
+      go true e = absurd (none-some (length t) (rw e at told.fits))
+      go false e = (leb-false (length t) (length x) e, rw e at told.text)

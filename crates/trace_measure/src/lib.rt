@@ -22,8 +22,7 @@ fn word_size(kind: Kind) -> usize
     ensures { (result ≡ length (kind_word (named kind))) × (result ≤ 6) }
 {
     match kind {
-        Kind::Conv => 4,
-        Kind::Wrap => 4,
+        Kind::Conv | Kind::Wrap => 4,
         Kind::Unwrap => 6,
     }
 }
