@@ -10,7 +10,9 @@ use lib.ListN.{length}
 use lib.Seq.{get_or-set_other}
 use Rattle.unfold_frames.specs.Frames.{words_for, with_mark}
 use Rattle.unfold_frames.proofs.Marks.{mark_new, mark_stays, mark_old}
-use Rattle.unfold_exits.specs.Lists.{exit_of, over_exit}
+use Rattle.unfold_exits.specs.Cost.{told_at}
+use Rattle.unfold_exits.specs.Lists.{exit_at}
+use Rattle.unfold_exits.specs.declared.lists.Exit.{Exit}
 use Rattle.unfold_picks.specs.Opening.{Adds, Meets, MeetsOne, Marking}
 
 module _ {words o : ℕ} where
@@ -37,31 +39,32 @@ module _ {words o : ℕ} where
         only = λ e y. ⊎_elim (λ z. ⊎_elim (λ s. inl s) (λ p. inr (left e p)) (a.only e z)) (λ q. inr (right e q)) (c.only e y);
       }
 
-  module _ (W C O : List ℕ) (row k : ℕ) where
+  module _ (W C : List ℕ) (O : List Exit) (row k : ℕ) where
     pub meets_none : {L : List ℕ} → Adds words o (MeetsOne W C O row k 0) L L
     meets_none = adds_none (λ e y. omega (arith, y.below))
 
-    pub meets_more : {L L' L'' : List ℕ} (m : ℕ) → Adds words o (MeetsOne W C O row k m) L L' → Adds words o (Meets W C O row k m) L' L'' → Adds words o (MeetsOne W C O row k (m + 1)) L L''
+    pub meets_more : {L L' L'' : List ℕ} (m : ℕ) → Adds words o (MeetsOne W C O row k m) L L' → Adds words o (Meets W C (exit_at O m) row k) L' L'' → Adds words o (MeetsOne W C O row k (m + 1)) L L''
     meets_more m a c = adds_then split (λ e y. record { at = y.at; below = omega (arith, y.below); is = y.is }) (λ e y. record { at = m; below = omega arith; is = y }) a c
       where
-        split : (e : ℕ) → MeetsOne W C O row k (m + 1) e → MeetsOne W C O row k m e ⊎ Meets W C O row k m e
+        split : (e : ℕ) → MeetsOne W C O row k (m + 1) e → MeetsOne W C O row k m e ⊎ Meets W C (exit_at O m) row k e
         split e y = go (dec_lt y.at m)
           where
-            go : Dec (y.at < m) → MeetsOne W C O row k m e ⊎ Meets W C O row k m e
+            go : Dec (y.at < m) → MeetsOne W C O row k m e ⊎ Meets W C (exit_at O m) row k e
             go (yes h) = inl (record { at = y.at; below = h; is = y.is })
             go (no h) = let f : y.at ≡ m = omega (arith, y.below) in inr (rw f at y.is)
 
-    pub exit_left : {L : List ℕ} (i a : ℕ) → a ≡ over_exit W C O row i → (a ≡ k → ⊥) → Adds words o (Meets W C O row k i) L L
-    exit_left i a q h = adds_none (λ e y. h (q ∙ y.met))
+-- an exit over which the way costs something else, and one that is marked
+module _ {W C : List ℕ} {row : ℕ} (out : Exit) (k a : ℕ) (q : a ≡ told_at W C (row + out.place) + out.cost) where
+  pub exit_left : {words o : ℕ} {L : List ℕ} → (a ≡ k → ⊥) → Adds words o (Meets W C out row k) L L
+  exit_left h = adds_none (λ e y. h (q ∙ y.met))
 
--- exit i is marked
-module _ {size : ℕ} {W C O : List ℕ} {len row o : ℕ} {L : List ℕ} (i : ℕ) (mk : Marking size W C O len row o L) (h : i < len) where
-  pub exit_below : (e : ℕ) → e ≡ exit_of O i → o + 5 + e / 16 < length L
-  exit_below e f = omega (arith, div-add-mod e 16, mk.ranged.place_below i h, mk.record_room)
+  pub exit_marked : {size o : ℕ} {L L' : List ℕ} → a ≡ k → out.place < size → o + 5 + words_for size ≤ length L → L' ≡ with_mark L o out.place → Adds (words_for size) o (Meets W C out row k) L L'
+  exit_marked met h room y = adds_one out.place y (omega arith) room (record { is = refl; met = sym q ∙ met }) (λ e z. sym z.is)
 
-  pub exit_marked : {L' : List ℕ} (k a e : ℕ) → a ≡ over_exit W C O row i → a ≡ k → e ≡ exit_of O i → L' ≡ with_mark L o e → Adds (words_for size) o (Meets W C O row k i) L L'
-  exit_marked k a e q met f y = adds_one e y (omega (arith, mk.ranged.place_below i h)) mk.record_room (record { is = sym f; met = sym q ∙ met }) (λ e' z. sym z.is ∙ sym f)
+-- the word of a place stands in the record's room
+pub exit_below : (size o e : ℕ) (L : List ℕ) → e < size → o + 5 + words_for size ≤ length L → o + 5 + e / 16 < length L
+exit_below size o e L h room = omega (arith, div-add-mod e 16)
 
 -- what marking asks, after some was marked
-pub still_marking : {size : ℕ} {W C O : List ℕ} {len row o : ℕ} {L L' : List ℕ} → Marking size W C O len row o L → length L' ≡ length L → Marking size W C O len row o L'
-still_marking m e = record { ranged = m.ranged; weights = m.weights; counts = m.counts; record_room = rw e m.record_room }
+pub still_marking : {size : ℕ} {O : List Exit} {row o : ℕ} {L L' : List ℕ} → Marking size O row o L → length L' ≡ length L → Marking size O row o L'
+still_marking m e = record { ranged = m.ranged; row_room = m.row_room; record_room = rw e m.record_room }

@@ -22,6 +22,7 @@ use Rattle.tables_costs.specs.Costs.{far}
 use Rattle.unfold_exits.specs.Cost.{cost, told_at}
 use Rattle.unfold_exits.specs.Lists.{Lists, finishing}
 use Rattle.unfold_exits.specs.Exits.{left_at, Leaves}
+use Rattle.unfold_exits.specs.declared.lists.Exit.{Exit}
 use Rattle.unfold_exits.proofs.Finishing.{finish_low, finish_met}
 use Rattle.paper.proofs.Places.{place_lt}
 use Rattle.unfold_exits.proofs.Telling.{value_told, told_near}
@@ -185,13 +186,13 @@ module _ (n p : ℕ) (W C : List ℕ) where
           rw k.costs (at_most_cost u m k.w k.m here.short (rw (g.weighs, g.counts) at (here.least.least g.by)))
 
       -- the listed exits of the level whose record begins at entry o
-      module _ (L : List ℕ) (o : ℕ) (hp : 0 < p) {E : List ℕ} {len : ℕ} (l : Lists (Leaves (n * p) W C L o) E len) where
+      module _ (L : List ℕ) (o : ℕ) (hp : 0 < p) {E : List Exit} (l : Lists (Leaves (n * p) W C L o) E) where
         abbrev f : Frame
         f = held_at p (words_for (n * p)) L o
 
         -- the least cost of finishing from (r, q)
         abbrev finished : (r q : ℕ) → ℕ
-        finished r q = finishing W C E len (place p r q * (n * p))
+        finished r q = finishing W C E (place p r q * (n * p))
 
         module _ {H : List ℕ} (ms : Marks hop n p t D b f H) (hf : f.counts ≤ 4096) where
           pub level_comes : (r q : ℕ) → finished r q < far → Comes f r q (finished r q)

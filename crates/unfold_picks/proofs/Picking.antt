@@ -11,6 +11,7 @@ use Rattle.laws.specs.Value.{Value}
 use Rattle.laws.specs.Unfold.{Exact, Ok, Opened, Passes, conv_passes, wrap_passes, unwrap_passes, State, Frame}
 use Rattle.laws.proofs.Fixpoint as fixpoint
 use Rattle.laws.proofs.Unfold.{passes_hop, some_passes}
+use Rattle.network_records.specs.declared.kind.Kind.TheVariants.{Conv, Wrap, Unwrap}
 use Rattle.network.specs.Network.{nodes, protocols, hop_in}
 use Rattle.network.specs.Arranged.{Arranged}
 use Rattle.network.proofs.Steps.{found, steps_inside}
@@ -96,10 +97,10 @@ module _ (g W C : List ℕ) (D b : ℕ) (arranged : Arranged g) (exact : Exact (
   frame_at o = held_at p (words_for (n * p)) L o
 
   module _ (o : ℕ) {gs : List Frame} (state : StateAt (frame_at o) gs) (some_left : 0 < at.left) {s₁ s₂ : Step}
-      (l : ByLevel g W C L o at 0 0 nothing s₁) (q : ByTunnel g W C L o at s₁ s₂) where
+      (l : ByLevel g W C L o at Conv 0 nothing s₁) (q : ByTunnel g W C L o at s₁ s₂) where
     -- the steps in the level and those into a tunnel
     abbrev Own : Step → Type 0
-    Own s = Tries g W C D b arranged exact L o at l.E l.len 0 0 s ⊎ Tries g W C D b arranged exact L o at q.O q.len 1 0 s
+    Own s = Tries g W C D b arranged exact L o at l.E Conv 0 s ⊎ Tries g W C D b arranged exact L o at q.O Wrap 0 s
 
     own_way : (s : Step) → Own s → Way g W C (frame_at o) gs at s
     own_way s (inl y) = conv_way g W C D b arranged exact L o at l.lists state.nest some_left y
@@ -117,7 +118,7 @@ module _ (g W C : List ℕ) (D b : ℕ) (arranged : Arranged g) (exact : Exact (
     wrap_own lk cw h pw pm op = inr (wrap_tried g W C D b arranged exact L o at state.nest q.outward lk cw h pw pm op)
 
   -- at the bottom there is nothing to unwrap
-  pub bottom_better : (o : ℕ) (state : StateAt (frame_at o) []) → 0 < at.left → {s₁ s₂ : Step} → ByLevel g W C L o at 0 0 nothing s₁ → ByTunnel g W C L o at s₁ s₂
+  pub bottom_better : (o : ℕ) (state : StateAt (frame_at o) []) → 0 < at.left → {s₁ s₂ : Step} → ByLevel g W C L o at Conv 0 nothing s₁ → ByTunnel g W C L o at s₁ s₂
       → Better (Way g W C (frame_at o) [] at) nothing s₂
   bottom_better o state some_left l q =
       let own = own_better o state some_left l q in
@@ -129,12 +130,12 @@ module _ (g W C : List ℕ) (D b : ℕ) (arranged : Arranged g) (exact : Exact (
       }
 
   -- in an inner level there is
-  pub inner_better : (o o' : ℕ) {gs : List Frame} (state : StateAt (frame_at o) (frame_at o' ∷ gs)) → 0 < at.left → {s₁ s₂ s₃ : Step} → ByLevel g W C L o at 0 0 nothing s₁ → ByTunnel g W C L o at s₁ s₂
-      → ByLevel g W C L o' at 2 (frame_at o).hidden s₂ s₃ → Better (Way g W C (frame_at o) (frame_at o' ∷ gs) at) nothing s₃
+  pub inner_better : (o o' : ℕ) {gs : List Frame} (state : StateAt (frame_at o) (frame_at o' ∷ gs)) → 0 < at.left → {s₁ s₂ s₃ : Step} → ByLevel g W C L o at Conv 0 nothing s₁ → ByTunnel g W C L o at s₁ s₂
+      → ByLevel g W C L o' at Unwrap (frame_at o).hidden s₂ s₃ → Better (Way g W C (frame_at o) (frame_at o' ∷ gs) at) nothing s₃
   inner_better o o' {gs} state some_left l q y =
       better_then
       (λ s a. rw a.is
-      (by_kind (λ s. Own o state some_left l q s ⊎ Tries g W C D b arranged exact L o' at y.E y.len 2 (frame_at o).hidden s)
+      (by_kind (λ s. Own o state some_left l q s ⊎ Tries g W C D b arranged exact L o' at y.E Unwrap (frame_at o).hidden s)
       (λ lk cw h pw pm ok. inl (conv_own o state some_left l q lk cw h pw pm ok))
       (λ lk cw h pw pm op. inl (wrap_own o state some_left l q lk cw h pw pm op))
       (λ g' hs e lk cw hid h pw pm ok. let f : frame_at o' ≡ g' = cc in inr (unwrap_tried g W C D b arranged exact L o' at y.lists state.nest lk cw hid h pw pm (rw (← f) at ok)))

@@ -7,7 +7,7 @@ use mathlib.Core.Option.{Option, some}
 use mathlib.Core.Logic.{◌↔◌}
 use native.Mathlib.Omega.{arith}
 use native.Mathlib.Nat.{add-zero, div-add-mod', mod-lt, mod-eq_of_lt, div-eq_of_lt, div-lt_iff_lt-mul, mul-add-div_right, mul-add-mod_self_right}
-use lib.ListN.{length-append}
+use lib.ListN.{length, length-append}
 use Rattle.paper.specs.Net.{wrap, unwrap, Key, key, place}
 use Rattle.laws.specs.Level.{keys}
 use Rattle.laws.specs.Value.{Value}
@@ -25,6 +25,7 @@ use Rattle.tables_costs.specs.Costs.{far}
 use Rattle.unfold_exits.specs.Cost.{cost, told_at}
 use Rattle.unfold_exits.specs.Lists.{exit_of, cost_of, Lists, Some, Gathered, finishing}
 use Rattle.unfold_exits.specs.Exits.{Leaves, lands, Unwraps}
+use Rattle.unfold_exits.specs.declared.lists.Exit.{Exit}
 use Rattle.unfold_exits.proofs.Finishing.{finish_low, finish_met}
 use Rattle.unfold_exits.proofs.Landings.{lands_low, lands_met}
 use Rattle.paper.proofs.Places.{place_lt}
@@ -63,7 +64,7 @@ module _ (g : List ℕ) (arranged : Arranged g) (W C : List ℕ) where
     pub comes : Comes n p W C hop f to_node x rest_cost
     pub costs : k ≡ cost weighs 1 + rest_cost
 
-  module _ (D b : ℕ) (exact : Exact hop n p T') (L : List ℕ) (o : ℕ) {E : List ℕ} {len : ℕ} (l : Lists (Leaves (n * p) W C L o) E len) where
+  module _ (D b : ℕ) (exact : Exact hop n p T') (L : List ℕ) (o : ℕ) {E : List Exit} (l : Lists (Leaves (n * p) W C L o) E) where
     abbrev f : Frame
     f = held_at p (words_for (n * p)) L o
 
@@ -71,17 +72,17 @@ module _ (g : List ℕ) (arranged : Arranged g) (W C : List ℕ) where
 
     module _ (x : ℕ) {H : List ℕ} (ms : Marks hop n p T' D b f H) (hf : f.counts ≤ 4096) where
       abbrev On : (j e k : ℕ) → Type 0
-      On = Unwraps g W C E len x
+      On = Unwraps g W C E x
 
       pub unwraps_outs : {j e k : ℕ} → j < funs g → On j e k → Outs f x (node g j) (y_of g j) k
       unfolding kind_of_code
       unwraps_outs {j} {e} {k} hj s =
-          let land = lands_met g W C E len x (node g j) (omega (arith, s.cost_is, s.near)) in
+          let land = lands_met g W C E x (node g j) (omega (arith, s.cost_is, s.near)) in
           record {
             m = number g land.i;
             to_node = to g land.i;
             weighs = fee g j + toll g land.i;
-            rest_cost = finishing W C E len (place p (to g land.i) x * (n * p));
+            rest_cost = finishing W C E (place p (to g land.i) x * (n * p));
             closes = step_at g arranged j land.i (node g j) 2 x hj land.below land.leaves refl s.unwraps s.hides;
             comes = level_comes n p W C hop D b inside exact L o arranged.valid.some_protocol l ms hf (to g land.i) x (omega (arith, s.cost_is, s.near, land.is));
             costs = omega (arith, s.cost_is, land.is);
@@ -98,15 +99,15 @@ module _ (g : List ℕ) (arranged : Arranged g) (W C : List ℕ) where
       pub outs_brought : (m u y r w : ℕ) {v n' : ℕ} → hop (key m unwrap x y) u ≡ some (r, w) → Ok hop n p T' f r x v n' → n' ≤ 4096 → v ≤ 4000000000 → Brings u y (cost w 1 + cost v n')
       outs_brought m u y r w {v} {n'} h ok hn hv =
           let step = found g arranged m unwrap x y u r w h in
-          let low = lands_low g W C E len x u step.i step.of_link step.at_from in
+          let low = lands_low g W C E x u step.i step.of_link step.at_from in
           let fin = level_low n p W C hop D b inside exact L o arranged.valid.some_protocol l ms hf r x hn ok in
-          let e = ap (λ (q : ℕ). finishing W C E len (place p q x * (n * p))) step.has_to in
-          let z = ap (λ (q : ℕ). lands g W C E len x q) step.at_node in
+          let e = ap (λ (q : ℕ). finishing W C E (place p q x * (n * p))) step.has_to in
+          let z = ap (λ (q : ℕ). lands g W C E x q) step.at_node in
           let most = arranged.valid.fun_weight step.j step.of_fun in
           let more = arranged.valid.link_weight step.i step.of_link in
           record {
             j = step.j;
-            its_cost = cost (fee g step.j) 0 + lands g W C E len x (node g step.j);
+            its_cost = cost (fee g step.j) 0 + lands g W C E x (node g step.j);
             below = step.of_fun;
             by = record {
               unwraps = kind_is g arranged unwrap step.j step.of_fun step.has_kind;
@@ -166,9 +167,9 @@ module _ (g : List ℕ) (arranged : Arranged g) (W C : List ℕ) where
             ok = s.comes.ok;
           }
 
-      module _ {O : List ℕ} {len' : ℕ} (all : Gathered (Unwraps g W C E len x) (funs g) O len') where
+      module _ {O : List Exit} (all : Gathered (Unwraps g W C E x) (funs g) O) where
         abbrev Q : (e k : ℕ) → Type 0
-        Q = Some (Unwraps g W C E len x) (funs g)
+        Q = Some (Unwraps g W C E x) (funs g)
 
         some_outs : {e k : ℕ} → Q e k → Outs f x (e / p) (e % p) k
         some_outs {e} {k} s =
@@ -184,7 +185,7 @@ module _ (g : List ℕ) (arranged : Arranged g) (W C : List ℕ) where
 
         -- the exits of the list over which what is left is met are the tunnel's
         abbrev Met : (e : ℕ) → Type 0
-        Met = MeetsOne W C O (place p r z * (n * p)) (cost u m) len'
+        Met = MeetsOne W C O (place p r z * (n * p)) (cost u m) (length O)
 
         pub listed_opens : (i j : ℕ) → j < p → Met (place p i j) → Opens hop n p T' f x r z u m i j
         listed_opens i j hj y =
@@ -203,10 +204,10 @@ module _ (g : List ℕ) (arranged : Arranged g) (W C : List ℕ) where
             record { at = h.at; below = h.below; is = record { is = h.is; met = omega (arith, q, e, h.most, b.most, s.weighs, s.counts, least) } }
 
         -- the test
-        pub tunnel_test : (finishing W C O len' (place p r z * (n * p)) ≡ cost u m) ↔ Opened hop n p T' f x r z u m
+        pub tunnel_test : (finishing W C O (place p r z * (n * p)) ≡ cost u m) ↔ Opened hop n p T' f x r z u m
         tunnel_test = (there, back)
           where
-            there : finishing W C O len' (place p r z * (n * p)) ≡ cost u m → Opened hop n p T' f x r z u m
+            there : finishing W C O (place p r z * (n * p)) ≡ cost u m → Opened hop n p T' f x r z u m
             there e =
                 let h = finish_met Q W C all.lists (place p r z * (n * p)) (omega (arith, start.light, start.short)) in
                 record {
@@ -217,11 +218,11 @@ module _ (g : List ℕ) (arranged : Arranged g) (W C : List ℕ) where
                   opens = outs_opens (some_outs h.is) (sum_is h.e h.c (cost u m) (h.sum ∙ e));
                 }
 
-            back : Opened hop n p T' f x r z u m → finishing W C O len' (place p r z * (n * p)) ≡ cost u m
+            back : Opened hop n p T' f x r z u m → finishing W C O (place p r z * (n * p)) ≡ cost u m
             back q =
                 let s = opens_listed q.u q.y q.node q.protocol q.opens in
                 let low = finish_low Q W C all.lists (place p r z * (n * p)) (all.lists.each s.at s.below) in
                 let h = finish_met Q W C all.lists (place p r z * (n * p)) (omega (arith, s.is.met, start.light, start.short)) in
-                let sum = sum_is h.e h.c (finishing W C O len' (place p r z * (n * p))) h.sum in
+                let sum = sum_is h.e h.c (finishing W C O (place p r z * (n * p))) h.sum in
                 let high = outs_least ((div-lt_iff_lt-mul arranged.valid.some_protocol).1 (some_below h.is)) (mod-lt h.e arranged.valid.some_protocol) (some_outs h.is) (omega (arith, sum, low, s.is.met, start.light, start.short)) in
                 omega (arith, low, s.is.met, high, sum)

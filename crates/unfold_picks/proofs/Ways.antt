@@ -6,13 +6,16 @@ use mathlib.Core.List.{List, [], ◌∷◌}
 use mathlib.Core.Option.{Option, some}
 use mathlib.Core.Logic.{◌↔◌}
 use native.Mathlib.Omega.{arith}
-use Rattle.paper.specs.Net.{Kind, conv, wrap, unwrap, code, Key, key, place}
+use Rattle.paper.specs.Net.{conv, wrap, unwrap, code, Key, key, place}
 use Rattle.paper.specs.Route.{flat}
 use Rattle.laws.specs.Value.{Value}
 use Rattle.laws.specs.Unfold.{Exact, Ok, Opened, Passes, conv_passes, wrap_passes, unwrap_passes, Nest, Frame}
 use Rattle.laws.proofs.Fixpoint as fixpoint
 use Rattle.laws.proofs.Nest.{way_conv, nest_begun, nest_way, nest_unwrap}
 use Rattle.network_records.specs.Columns.{kind_of_code}
+use Rattle.network_records.specs.Kinds.{named}
+use Rattle.network_records.specs.declared.kind.Kind.{Kind}
+use Rattle.network_records.specs.declared.kind.Kind.TheVariants.{Conv, Wrap, Unwrap}
 use Rattle.network.specs.Network.{nodes, protocols, funs, number, to, toll, x_of, y_of, fee, hop_in}
 use Rattle.network.specs.Arranged.{Arranged}
 use Rattle.network.proofs.Steps.{step_at, Found, found, kind_is, steps_inside}
@@ -21,6 +24,7 @@ use Rattle.unfold_exits.specs.Cost.{cost}
 use Rattle.unfold_exits.specs.Lists.{Lists, finishing}
 use Rattle.unfold_exits.specs.Exits.{Leaves}
 use Rattle.unfold_tries.specs.Trial.{Any, Serves, ByFun, top_of, next_of}
+use Rattle.unfold_exits.specs.declared.lists.Exit.{Exit}
 use Rattle.unfold_tries.specs.declared.trial.Spot.{Spot}
 use Rattle.unfold_tries.specs.declared.trial.Step.{Step}
 use Rattle.unfold_picks.specs.Contract.{table_in}
@@ -77,20 +81,20 @@ module _ (g W C : List ℕ) (D b : ℕ) (arranged : Arranged g) (exact : Exact (
   inside = steps_inside g arranged
 
   -- the steps tried with the exits in E
-  abbrev pub Tries : (E : List ℕ) (len k h : ℕ) → Step → Type 0
-  Tries E len k h = Any (ByFun g W C E len at k h) (funs g)
+  abbrev pub Tries : (E : List Exit) (k : Kind) (h : ℕ) → Step → Type 0
+  Tries E k h = Any (ByFun g W C E at k h) (funs g)
 
   few_left : {f' : Frame} {gs : List Frame} → Nest hop n p t D b f' gs v x w m → m ≤ 4096
   few_left nest = (nest_begun hop n p t D b inside exact nest).short
 
   -- the function and the link of a step, of kind c with y and z: it serves, and the step is tried
-  module _ (c : Kind) (h : ℕ) {lk y e r cw : ℕ} (s : Found g arranged lk c y e v r cw) (top : top_of g (code c) s.j ≡ x) (beneath : code c ≡ 2 → y ≡ h) where
-    serves_by : Serves g v (code c) x h s.j
-    serves_by = record { at_node = s.at_node; of_kind = kind_is g arranged c s.j s.of_fun s.has_kind; on_top = top; beneath = λ i. s.has_x ∙ beneath i }
+  module _ (c : Kind) (h : ℕ) {lk y e r cw : ℕ} (s : Found g arranged lk (named c) y e v r cw) (top : top_of g (code (named c)) s.j ≡ x) (beneath : code (named c) ≡ 2 → y ≡ h) where
+    serves_by : Serves g v (code (named c)) x h s.j
+    serves_by = record { at_node = s.at_node; of_kind = kind_is g arranged (named c) s.j s.of_fun s.has_kind; on_top = top; beneath = λ i. s.has_x ∙ beneath i }
 
-    tried_by : {E : List ℕ} {len z u q : ℕ} → next_of g (code c) s.j ≡ z → w ≡ cw + u → m ≡ suc q → finishing W C E len (place p r z * (n * p)) ≡ cost u q → Tries E len (code c) h (step_to (key lk c y e) r z u q)
+    tried_by : {E : List Exit} {z u q : ℕ} → next_of g (code (named c)) s.j ≡ z → w ≡ cw + u → m ≡ suc q → finishing W C E (place p r z * (n * p)) ≡ cost u q → Tries E c h (step_to (key lk (named c) y e) r z u q)
     unfolding flat
-    tried_by {E} {len} {z} {u} {q} next pw pm i = tried_any g W C E len at (code c) h (record {
+    tried_by {E} {z} {u} {q} next pw pm i = tried_any g W C E at c h (record {
       j = s.j;
       i = s.i;
       u = u;
@@ -107,16 +111,16 @@ module _ (g W C : List ℕ) (D b : ℕ) (arranged : Arranged g) (exact : Exact (
 
   -- ## In the level of the record
 
-  module _ {E : List ℕ} {len : ℕ} (l : Lists (Leaves (n * p) W C L o) E len) where
+  module _ {E : List Exit} (l : Lists (Leaves (n * p) W C L o) E) where
     -- its test
-    test : {gs : List Frame} {r q u i : ℕ} → Nest hop n p t D b f gs r q u i → (finishing W C E len (place p r q * (n * p)) ≡ cost u i) ↔ Ok hop n p t f r q u i
+    test : {gs : List Frame} {r q u i : ℕ} → Nest hop n p t D b f gs r q u i → (finishing W C E (place p r q * (n * p)) ≡ cost u i) ↔ Ok hop n p t f r q u i
     test next = level_test n p W C hop D b inside exact L o arranged.valid.some_protocol l next
 
     module _ {gs : List Frame} (nest : Nest hop n p t D b f gs v x w m) where
-      pub conv_way : {s : Step} → 0 < m → Tries E len 0 0 s → Way g W C f gs at s
+      pub conv_way : {s : Step} → 0 < m → Tries E Conv 0 s → Way g W C f gs at s
       unfolding kind_of_code top_of next_of flat
       conv_way some_left a =
-          let e = any_tried g W C E len at 0 0 some_left (few_left nest) a in
+          let e = any_tried g W C E at Conv 0 some_left (few_left nest) a in
           let y = e.serving in
           let h = step_at g arranged e.j e.i v 0 x e.of_fun e.of_link (e.leaves ∙ sym y.at_node) y.at_node y.of_kind y.on_top in
           let next = nest_way hop n p t D b nest (way_conv hop n p t (number g e.i) (fee g e.j + toll g e.i) h e.weighs e.counts) in
@@ -130,19 +134,19 @@ module _ (g W C : List ℕ) (D b : ℕ) (arranged : Arranged g) (exact : Exact (
             is = e.is ∙ ap (λ (a : ℕ). step_to (key (number g e.i) conv a (y_of g e.j)) (to g e.i) (y_of g e.j) e.u e.q) y.on_top;
           }
 
-      pub conv_tried : {r z u q : ℕ} (lk cw : ℕ) → hop (key lk conv x z) v ≡ some (r, cw) → w ≡ cw + u → m ≡ suc q → Ok hop n p t f r z u q → Tries E len 0 0 (step_to (key lk conv x z) r z u q)
+      pub conv_tried : {r z u q : ℕ} (lk cw : ℕ) → hop (key lk conv x z) v ≡ some (r, cw) → w ≡ cw + u → m ≡ suc q → Ok hop n p t f r z u q → Tries E Conv 0 (step_to (key lk conv x z) r z u q)
       unfolding top_of next_of
       conv_tried {r} {z} lk cw h pw pm ok =
           let e = found g arranged lk conv x z v r cw h in
-          tried_by conv 0 e e.has_x (λ i. absurd (omega arith)) e.has_y pw pm ((test (nest_way hop n p t D b nest (way_conv hop n p t lk cw h pw pm))).1 ok)
+          tried_by Conv 0 e e.has_x (λ i. absurd (omega arith)) e.has_y pw pm ((test (nest_way hop n p t D b nest (way_conv hop n p t lk cw h pw pm))).1 ok)
 
     -- ## Out of the level above it, of f', by an unwrap
 
     module _ {f' : Frame} {gs : List Frame} (nest : Nest hop n p t D b f' (f ∷ gs) v x w m) where
-      pub unwrap_way : {s : Step} → 0 < m → Tries E len 2 f'.hidden s → Way g W C f' (f ∷ gs) at s
+      pub unwrap_way : {s : Step} → 0 < m → Tries E Unwrap f'.hidden s → Way g W C f' (f ∷ gs) at s
       unfolding kind_of_code top_of next_of flat
       unwrap_way some_left a =
-          let e = any_tried g W C E len at 2 f'.hidden some_left (few_left nest) a in
+          let e = any_tried g W C E at Unwrap f'.hidden some_left (few_left nest) a in
           let y = e.serving in
           let hid : f'.hidden ≡ x_of g e.j = sym (y.beneath refl) in
           let h = step_at g arranged e.j e.i v 2 (x_of g e.j) e.of_fun e.of_link (e.leaves ∙ sym y.at_node) y.at_node y.of_kind refl in
@@ -159,19 +163,19 @@ module _ (g W C : List ℕ) (D b : ℕ) (arranged : Arranged g) (exact : Exact (
           }
 
       pub unwrap_tried : {r z u q : ℕ} (lk cw : ℕ) → f'.hidden ≡ z → hop (key lk unwrap z x) v ≡ some (r, cw) → w ≡ cw + u → m ≡ suc q → Ok hop n p t f r z u q
-          → Tries E len 2 f'.hidden (step_to (key lk unwrap z x) r z u q)
+          → Tries E Unwrap f'.hidden (step_to (key lk unwrap z x) r z u q)
       unfolding top_of next_of
       unwrap_tried {r} {z} lk cw hid h pw pm ok =
           let e = found g arranged lk unwrap z x v r cw h in
-          tried_by unwrap f'.hidden e e.has_y (λ i. sym hid) e.has_x pw pm ((test (nest_unwrap hop n p t D b lk cw nest hid h pw pm)).1 ok)
+          tried_by Unwrap f'.hidden e e.has_y (λ i. sym hid) e.has_x pw pm ((test (nest_unwrap hop n p t D b lk cw nest hid h pw pm)).1 ok)
 
   -- ## Into a tunnel from the level of the record, whose exits are listed if there is a wrap
 
-  module _ {gs : List Frame} (nest : Nest hop n p t D b f gs v x w m) {O : List ℕ} {len : ℕ} (outward : (j : ℕ) → j < funs g → Serves g v 1 x 0 j → Outward g W C L o x O len) where
-    pub wrap_way : {s : Step} → 0 < m → Tries O len 1 0 s → Way g W C f gs at s
+  module _ {gs : List Frame} (nest : Nest hop n p t D b f gs v x w m) {O : List Exit} (outward : (j : ℕ) → j < funs g → Serves g v 1 x 0 j → Outward g W C L o x O) where
+    pub wrap_way : {s : Step} → 0 < m → Tries O Wrap 0 s → Way g W C f gs at s
     unfolding kind_of_code top_of next_of flat
     wrap_way some_left a =
-        let e = any_tried g W C O len at 1 0 some_left (few_left nest) a in
+        let e = any_tried g W C O at Wrap 0 some_left (few_left nest) a in
         let y = e.serving in
         let l = outward e.j e.of_fun y in
         let h = step_at g arranged e.j e.i v 1 x e.of_fun e.of_link (e.leaves ∙ sym y.at_node) y.at_node y.of_kind y.on_top in
@@ -186,9 +190,9 @@ module _ (g W C : List ℕ) (D b : ℕ) (arranged : Arranged g) (exact : Exact (
           is = e.is ∙ ap (λ (a : ℕ). step_to (key (number g e.i) wrap a (y_of g e.j)) (to g e.i) (y_of g e.j) e.u e.q) y.on_top;
         }
 
-    pub wrap_tried : {r z u q : ℕ} (lk cw : ℕ) → hop (key lk wrap x z) v ≡ some (r, cw) → w ≡ cw + u → m ≡ suc q → Opened hop n p t f x r z u q → Tries O len 1 0 (step_to (key lk wrap x z) r z u q)
+    pub wrap_tried : {r z u q : ℕ} (lk cw : ℕ) → hop (key lk wrap x z) v ≡ some (r, cw) → w ≡ cw + u → m ≡ suc q → Opened hop n p t f x r z u q → Tries O Wrap 0 (step_to (key lk wrap x z) r z u q)
     unfolding top_of next_of
     wrap_tried {r} {z} {u} {q} lk cw h pw pm opened =
         let e = found g arranged lk wrap x z v r cw h in
-        let l = outward e.j e.of_fun (serves_by wrap 0 e e.has_x (λ i. absurd (omega arith))) in
-        tried_by wrap 0 e e.has_x (λ i. absurd (omega arith)) e.has_y pw pm ((tunnel_test g arranged W C D b exact L o l.lists r z u q lk cw nest h pw pm l.gathered).1 opened)
+        let l = outward e.j e.of_fun (serves_by Wrap 0 e e.has_x (λ i. absurd (omega arith))) in
+        tried_by Wrap 0 e e.has_x (λ i. absurd (omega arith)) e.has_y pw pm ((tunnel_test g arranged W C D b exact L o l.lists r z u q lk cw nest h pw pm l.gathered).1 opened)

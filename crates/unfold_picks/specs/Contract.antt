@@ -10,10 +10,8 @@ use Rattle.paper.specs.declared.place.Place.{Place}
 use Rattle.laws.specs.Value.{Value}
 use Rattle.laws.specs.Unfold.{Frame, Exact, Opens, Picked, State}
 use Rattle.network.specs.Network.{nodes, protocols, places, hop_in}
-use Rattle.network.specs.Arranged.{Arranged}
 use Rattle.unfold_frames.specs.Frames.{words_for, held, below, Kept}
 use Rattle.tables_costs.specs.Cells.{table}
-use Rattle.unfold_exits.specs.Cost.{Square}
 use Rattle.unfold_tries.specs.declared.trial.Spot.{Spot}
 use Rattle.unfold_tries.specs.declared.trial.Step.{Step}
 
@@ -35,8 +33,6 @@ KeptIn g k L L' = Kept (protocols g) (words_for (places g)) k L L'
 module _ (g W C : List ℕ) where
   -- level k is the inmost that is open, and the unfolding of a route to `end` has come to `at`
   pub record Stands (end : Place) (L : List ℕ) (k : ℕ) (at : Spot) : Type 0 where
-    pub arranged : Arranged g
-    pub square : Square (places g) W C
     pub exact : Exact (hop_in g) (nodes g) (protocols g) (table_in g W C)
     pub room : (words_for (places g) + 5) * suc k ≤ length L
     pub state : State (hop_in g) (nodes g) (protocols g) (table_in g W C) end.node end.protocol (level_in g L k) (beneath_in g L k) at.node at.protocol at.weight at.left

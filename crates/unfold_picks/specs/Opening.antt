@@ -7,10 +7,10 @@ use Rattle.std.proofs.Math.ListN.{length}
 use Rattle.paper.specs.Net.{wrap, key}
 use Rattle.paper.specs.declared.place.Place.{Place}
 use Rattle.network.specs.Network.{nodes, protocols, places, place_in, hop_in}
-use Rattle.network.specs.Arranged.{Arranged}
 use Rattle.unfold_frames.specs.Frames.{words_for, Headed, mark}
-use Rattle.unfold_exits.specs.Cost.{cost, Square}
-use Rattle.unfold_exits.specs.Lists.{exit_of, Ranged, over_exit}
+use Rattle.unfold_exits.specs.Cost.{cost, told_at}
+use Rattle.unfold_exits.specs.Lists.{exit_at, Ranged}
+use Rattle.unfold_exits.specs.declared.lists.Exit.{Exit}
 use Rattle.unfold_tries.specs.declared.trial.Spot.{Spot}
 use Rattle.unfold_picks.specs.Contract.{Stands}
 
@@ -21,22 +21,30 @@ pub record Adds (words o : ℕ) (P : ℕ → Type 0) (L L' : List ℕ) : Type 0 
   pub new : (e : ℕ) → P e → T (mark words L' o e)
   pub only : (e : ℕ) → T (mark words L' o e) → T (mark words L o e) ⊎ P e
 
--- exit i of a list is the place e, and the way over it costs k
-pub record Meets (W C O : List ℕ) (row k i e : ℕ) : Type 0 where
-  pub is : exit_of O i ≡ e
-  pub met : over_exit W C O row i ≡ k
+-- the exit is the place e, and the way over it costs k
+pub record Meets (W C : List ℕ) (out : Exit) (row k e : ℕ) : Type 0 where
+  pub is : out.place ≡ e
+  pub met : told_at W C (row + out.place) + out.cost ≡ k
 
-pub record MeetsOne (W C O : List ℕ) (row k m e : ℕ) : Type 0 where
+-- the same of one of the first m of a list
+pub record MeetsOne (W C : List ℕ) (O : List Exit) (row k m e : ℕ) : Type 0 where
   pub at : ℕ
   pub below : at < m
-  pub is : Meets W C O row k at e
+  pub is : Meets W C (exit_at O at) row k e
 
 -- what marking them asks
-pub record Marking (size : ℕ) (W C O : List ℕ) (len row o : ℕ) (L : List ℕ) : Type 0 where
-  pub ranged : Ranged size O len
-  pub weights : row + size ≤ length W
-  pub counts : row + size ≤ length C
+pub record Marking (size : ℕ) (O : List Exit) (row o : ℕ) (L : List ℕ) : Type 0 where
+  pub ranged : Ranged size O
+  pub row_room : row + size ≤ size * size
   pub record_room : o + 5 + words_for size ≤ length L
+
+-- what writing the record of a tunnel over x that begins at `to` asks, with its exits listed in O
+pub record Writing (g : List ℕ) (O : List Exit) (L : List ℕ) (o x : ℕ) (to : Spot) : Type 0 where
+  pub ranged : Ranged (places g) O
+  pub hidden : x < 65536
+  pub node : to.node < nodes g
+  pub protocol : to.protocol < protocols g
+  pub room : o + 5 + words_for (places g) ≤ length L
 
 module _ (g W C : List ℕ) where
   -- from where the unfolding stands a wrap leads to `to`, and there is room for the tunnel's record
@@ -49,18 +57,8 @@ module _ (g W C : List ℕ) where
     pub counts : at.left ≡ suc to.left
     pub room : (words_for (places g) + 5) * suc (suc k) ≤ length L
 
-  -- what writing the record of a tunnel over x that begins at `to` asks, with its exits listed in O
-  pub record Writing (O : List ℕ) (len : ℕ) (L : List ℕ) (o x : ℕ) (to : Spot) : Type 0 where
-    pub arranged : Arranged g
-    pub square : Square (places g) W C
-    pub ranged : Ranged (places g) O len
-    pub hidden : x < 65536
-    pub node : to.node < nodes g
-    pub protocol : to.protocol < protocols g
-    pub room : o + 5 + words_for (places g) ≤ length L
-
   -- it is written at entry o: its numbers, and a mark for each exit over which what is left is met; the room before it is the same
-  pub record Written (O : List ℕ) (len : ℕ) (L L' : List ℕ) (o x : ℕ) (to : Spot) : Type 0 where
+  pub record Written (O : List Exit) (L L' : List ℕ) (o x : ℕ) (to : Spot) : Type 0 where
     pub headed : Headed L' o (place_in g to.node to.protocol) x to.weight to.left
     pub same : (i : ℕ) → i < o → get_or L' i 0 ≡ get_or L i 0
-    pub marks : (e : ℕ) → T (mark (words_for (places g)) L' o e) ↔ MeetsOne W C O (place_in g to.node to.protocol * places g) (cost to.weight to.left) len e
+    pub marks : (e : ℕ) → T (mark (words_for (places g)) L' o e) ↔ MeetsOne W C O (place_in g to.node to.protocol * places g) (cost to.weight to.left) (length O) e

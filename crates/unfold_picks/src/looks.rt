@@ -1,83 +1,68 @@
 // Looking for a step among the exits of one record: a step in its level, or a wrap that opens a tunnel from it.
-ghost use Rattle.std.specs.Prelude.{◌≡◌, ◌+◌, ◌<◌, ◌≤◌};
+ghost use Rattle.std.specs.Prelude.{◌≡◌, ◌+◌, ◌≤◌};
 ghost use Rattle.network.specs.Network.{places};
-ghost use Rattle.network.specs.Arranged.{Arranged};
 ghost use Rattle.unfold_frames.specs.Frames.{words_for};
-ghost use Rattle.unfold_exits.specs.Lists.{Ample};
 ghost use Rattle.unfold_picks.specs.Look.{Looking, ByLevel, Outward, ByTunnel};
 
-use network::size::{funs, places};
-use network::walk::next_fun;
+use network::Network;
+use network_records::kind::Kind;
 use unfold_exits::levels::list_level;
+use unfold_exits::lists::Exits;
+use unfold_exits::solved::Solved;
 use unfold_exits::tunnels::list_tunnel;
-use unfold_frames::words_for;
+use unfold_frames::{Record, words_for};
 use unfold_tries::funs::try_funs;
 use unfold_tries::trial::{Spot, Step};
 
+// The exits of a level, and those of a tunnel from it.
+#[derive(Drop)]
+pub struct Lists {
+    pub exits: Exits,
+    pub outs: Exits,
+}
+
 // The entries of a level's record.
-pub fn record_length(net: &[u32]) -> usize
-    requires { Arranged net.now }
+pub fn record_length(net: &Network) -> usize
     ensures { (result ≡ words_for (places net.now) + 5) × (result ≤ 69) }
 {
-    words_for(places(net)) + 5
+    words_for(net.places()) + 5
 }
 
-// The better of `best` and the steps of a kind that lead on in the level whose record begins at entry o.
+// The better of `best` and the steps of a kind that lead on in the level.
 pub fn look_level(
-    net: &[u32],
-    weight: &[u32],
-    count: &[u16],
-    choice: &[u16],
-    o: usize,
+    solved: &Solved,
+    level: &Record,
     at: Spot,
-    kind: usize,
+    kind: Kind,
     hidden: usize,
     best: Step,
-    exits: &mut [u64],
+    exits: &mut Exits,
 ) -> Step
-    requires { (kind < 3) × Looking net.now weight.now count.now choice.now o at × Ample exits.old }
-    ensures { ByLevel net.now weight.now count.now choice.now o at kind hidden best result }
+    requires { Looking solved.now.net.now level.now.choice.now level.now.at at }
+    ensures { ByLevel solved.now.net.now solved.now.tables.weight.now solved.now.tables.count.now level.now.choice.now level.now.at at kind hidden best result }
 {
-    let len = list_level(weight, count, places(net), choice, o, exits);
-    try_funs(net, weight, count, exits, len, at, kind, hidden, best)
+    list_level(&solved.tables, solved.net.places(), level, exits);
+    try_funs(solved, exits.listed(), at, kind, hidden, best)
 }
 
-// The exits of a tunnel opened at `at` from the level whose record begins at entry o.
-pub fn list_outward(
-    net: &[u32],
-    weight: &[u32],
-    count: &[u16],
-    choice: &[u16],
-    o: usize,
-    at: Spot,
-    exits: &mut [u64],
-    outs: &mut [u64],
-) -> usize
-    requires { Looking net.now weight.now count.now choice.now o at × Ample exits.old × Ample outs.old }
-    ensures { Outward net.now weight.now count.now choice.now o at.protocol outs.new result }
+// Lists the exits of a tunnel opened at `at` from the level.
+pub fn list_outward(solved: &Solved, level: &Record, at: Spot, lists: &mut Lists)
+    requires { Looking solved.now.net.now level.now.choice.now level.now.at at }
+    ensures { Outward solved.now.net.now solved.now.tables.weight.now solved.now.tables.count.now level.now.choice.now level.now.at at.protocol lists.new.outs }
 {
-    let len = list_level(weight, count, places(net), choice, o, exits);
-    list_tunnel(net, weight, count, exits, len, at.protocol, outs)
+    list_level(&solved.tables, solved.net.places(), level, &mut lists.exits);
+    list_tunnel(solved, lists.exits.listed(), at.protocol, &mut lists.outs);
 }
 
-// The better of `best` and the wraps that open a tunnel from the level whose record begins at entry o.
-pub fn look_tunnel(
-    net: &[u32],
-    weight: &[u32],
-    count: &[u16],
-    choice: &[u16],
-    o: usize,
-    at: Spot,
-    best: Step,
-    exits: &mut [u64],
-    outs: &mut [u64],
-) -> Step
-    requires { Looking net.now weight.now count.now choice.now o at × Ample exits.old × Ample outs.old }
-    ensures { ByTunnel net.now weight.now count.now choice.now o at best result }
+// The better of `best` and the wraps that open a tunnel from the level.
+pub fn look_tunnel(solved: &Solved, level: &Record, at: Spot, best: Step, lists: &mut Lists) -> Step
+    requires { Looking solved.now.net.now level.now.choice.now level.now.at at }
+    ensures { ByTunnel solved.now.net.now solved.now.tables.weight.now solved.now.tables.count.now level.now.choice.now level.now.at at best result }
 {
-    if next_fun(net, 0, at.node, 1, at.protocol) == funs(net) {
+    let net = solved.net;
+    if net.next_fun(0, at.node, Kind::Wrap.code() as usize, at.protocol) == net.funs() {
         return best;
     }
-    let len = list_outward(net, weight, count, choice, o, at, exits, outs);
-    try_funs(net, weight, count, outs, len, at, 1, 0, best)
+    list_outward(solved, level, at, lists);
+    try_funs(solved, lists.outs.listed(), at, Kind::Wrap, 0, best)
 }

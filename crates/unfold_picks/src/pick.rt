@@ -1,12 +1,14 @@
 // The step that is taken next: of all that pass, in the inmost level, into a tunnel or out of the level, the one of least key.
 ghost use Rattle.std.specs.Prelude.{◌≡◌, ◌<◌};
-ghost use Rattle.unfold_exits.specs.Lists.{Ample};
 ghost use Rattle.unfold_picks.specs.Contract.{Taken, Stands};
 ghost use Rattle.unfold_picks.specs.Look.{nothing};
 
-use crate::looks::{look_level, look_tunnel, record_length};
+use crate::looks::{Lists, look_level, look_tunnel, record_length};
+use network_records::kind::Kind;
 use paper::key::step_key;
 use paper::place::Place;
+use unfold_exits::solved::Solved;
+use unfold_frames::Record;
 use unfold_tries::trial::{Spot, Step};
 
 // No step: its key comes behind every other.
@@ -27,37 +29,45 @@ fn nothing() -> Step
 
 // Level k is the inmost that is open; the route ends at `end`, of which only the contract speaks.
 pub fn pick(
-    net: &[u32],
-    weight: &[u32],
-    count: &[u16],
+    solved: &Solved,
     choice: &[u16],
     end: Place,
     k: usize,
     at: Spot,
-    exits: &mut [u64],
-    outs: &mut [u64],
+    lists: &mut Lists,
 ) -> Step
-    requires { (0 < at.left) × Stands net.now weight.now count.now end choice.now k at × Ample exits.old × Ample outs.old }
-    ensures { Taken net.now weight.now count.now choice.now k at result }
+    requires { (0 < at.left) × Stands solved.now.net.now solved.now.tables.weight.now solved.now.tables.count.now end choice.now k at }
+    ensures { Taken solved.now.net.now solved.now.tables.weight.now solved.now.tables.count.now choice.now k at result }
 {
-    let length = record_length(net);
-    let o = length * k;
-    let on = look_level(net, weight, count, choice, o, at, 0, 0, nothing(), exits);
-    let into = look_tunnel(net, weight, count, choice, o, at, on, exits, outs);
+    let length = record_length(solved.net);
+    let level = Record {
+        choice,
+        at: length * k,
+    };
+    let on = look_level(
+        solved,
+        &level,
+        at,
+        Kind::Conv,
+        0,
+        nothing(),
+        &mut lists.exits,
+    );
+    let into = look_tunnel(solved, &level, at, on, lists);
     if k == 0 {
         return into;
     }
-    let hidden = usize::from(choice[o + 1]);
-    look_level(
-        net,
-        weight,
-        count,
+    let above = Record {
         choice,
-        o - length,
+        at: level.at - length,
+    };
+    look_level(
+        solved,
+        &above,
         at,
-        2,
-        hidden,
+        Kind::Unwrap,
+        level.hidden(),
         into,
-        exits,
+        &mut lists.exits,
     )
 }

@@ -1,11 +1,11 @@
 use Rattle.unfold_picks.proofs.Sought.{looked_reading, looked_lists, looked_trying}
 use Rattle.unfold_picks.proofs.looks.look_level.Goals as goal
 
-pub list_level-len-requires : goal.list_level-len-requires
-list_level-len-requires c = let p = c.requires in (looked_reading p.1 c.places.ensures.0, p.2)
+pub list_level-requires : goal.list_level-requires
+list_level-requires c = looked_reading c.requires c.places.ensures.0 c.args.solved.now.square
 
 pub try_funs-requires : goal.try_funs-requires
-try_funs-requires c = let p = c.requires in (p.0, looked_trying p.1 c.places.ensures.0 c.list_level-len.ensures.0)
+try_funs-requires c = rw c.listed.ensures (looked_trying c.requires c.places.ensures.0 c.list_level.ensures.0)
 
 pub returns : goal.returns
-returns c = record { E = _; len = _; lists = looked_lists c.requires.1 c.places.ensures.0 c.list_level-len.ensures.1; better = c.try_funs.ensures }
+returns c = record { E = _; lists = looked_lists c.requires c.places.ensures.0 c.list_level.ensures.1; better = rw c.listed.ensures at c.try_funs.ensures }
