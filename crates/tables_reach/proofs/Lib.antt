@@ -1,4 +1,3 @@
 pub mod Scans
 pub mod Crossings
-pub mod Closings
 pub mod Turns

@@ -6,7 +6,7 @@ use native.Mathlib.Omega.{arith}
 use lib.ListN.{length, get_or, length-append}
 use Rattle.paper.specs.Net.{Kind, Key}
 use Rattle.paper.specs.Route.{At, at}
-use Rattle.paper.specs.Text.{decimal, written, path_word}
+use Rattle.paper.specs.Text.{decimal, tabbed, written, path_word}
 use Rattle.paper.specs.Trace.{step_line, step_lines, trace}
 use Rattle.paper.specs.declared.place.Place.{Place}
 use Rattle.digits.specs.declared.write.Writer.{Writer}
@@ -35,6 +35,10 @@ path_pieces w k = path_word ∷ (9 ∷ decimal w) ∷ (9 ∷ decimal k) ∷ (10 
 pub path_joined : (w k : ℕ) → written path_word (decimal w ∷ decimal k ∷ []) ≡ joined (path_pieces w k)
 unfolding pieces
 path_joined w k = written_pieces path_word (decimal w ∷ decimal k ∷ [])
+
+pub path_size : (w k : ℕ) → length (written path_word (decimal w ∷ decimal k ∷ [])) ≡ 7 + length (decimal w) + length (decimal k)
+unfolding written tabbed path_word
+path_size w k = simp length-append (omega arith)
 
 -- ## The step lines
 

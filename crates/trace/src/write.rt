@@ -16,6 +16,7 @@ use trace_replay::steps::Steps;
 use trace_stack::Stack;
 use trace_stepline::put_step;
 
+#[tactic(auto, using(crate::proofs::Replays::path_size))]
 fn put_path(w: &mut Writer, weight: u32, count: usize)
     requires { (count ≤ longest) × Holds w.old (written path_word (decimal weight ∷ decimal count ∷ [])) }
     ensures { Wrote w.old w.new (written path_word (decimal weight ∷ decimal count ∷ [])) }

@@ -43,6 +43,7 @@ fn put_stack(w: &mut Writer, cells: &[u8], height: usize)
     put_cells(w, &cells[..height]);
 }
 
+#[tactic(auto, using(crate::proofs::Pieces::key_size))]
 fn put_key(w: &mut Writer, key: [u16; 4])
     requires { Holds w.old (key_text (key_of key)) }
     ensures { Wrote w.old w.new (key_text (key_of key)) }
@@ -54,6 +55,7 @@ fn put_key(w: &mut Writer, key: [u16; 4])
     w.field(u32::from(key[3]));
 }
 
+#[tactic(auto, using(crate::proofs::Pieces::end_size))]
 fn put_end(w: &mut Writer, p: Packet, cells: &[u8])
     requires { Shown p cells.now × Holds w.old (end_text (whereabouts p cells.now)) }
     ensures { Wrote w.old w.new (end_text (whereabouts p cells.now)) }
@@ -64,6 +66,7 @@ fn put_end(w: &mut Writer, p: Packet, cells: &[u8])
 }
 
 // The line of the step that brought the packet where it is, its stack in these cells.
+#[tactic(auto, using(crate::proofs::Pieces::step_size))]
 pub fn put_step(w: &mut Writer, key: [u16; 4], p: Packet, cells: &[u8])
     requires { Shown p cells.now × Holds w.old (step_line (key_of key) (whereabouts p cells.now)) }
     ensures { Wrote w.old w.new (step_line (key_of key) (whereabouts p cells.now)) }

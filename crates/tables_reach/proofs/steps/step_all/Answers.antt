@@ -1,21 +1,30 @@
-use native.Mathlib.Omega.{arith}
 use borrow.Author.Rules.{rules}
-use Rattle.tables_reach.proofs.Crossings.{served, not_served}
-use Rattle.tables_reach.proofs.Scans.{scan_start, scan_turn, scan_end}
+use Rattle.tables_reach.proofs.Crossings.{served, passed_by, not_standing}
+use Rattle.tables_reach.proofs.Scans.{walk_on, walk_end, own_here, further}
 use Rattle.tables_sweeps.specs.Row.{steps}
 use Rattle.tables_reach.proofs.steps.step_all.Goals as goal
 
 pub loop-j-init : goal.loop-j-init
-loop-j-init c = (search rules, scan_start _ _ _ (λ k s e. not_served _ _ _ _ _ _ e) _ _ c.next_fun-j.ensures)
+loop-j-init c = (search rules, walk_on (λ k s e. not_standing _ _ _ _ _ _ e) _ (rw (← c.into_iter-j-iterator.ensures.into_iter_gives) at c.funs_of-j-items.ensures.stretch))
 
-pub loop-j-smaller : goal.loop-j-smaller
-loop-j-smaller c = omega (arith, c.next_fun-j-in-loop-j.ensures.from_here)
+pub is_for-requires : goal.is_for-requires
+is_for-requires c = (own_here c.loop-j.invariant.1 c.in-Some.ensures.steps).0
+
+pub step_links-requires : goal.step_links-requires
+step_links-requires c = (search rules, (own_here c.loop-j.invariant.1 c.in-Some.ensures.steps).0, search rules)
+
+pub loop-j-preserved-then-is_for : goal.loop-j-preserved-then-is_for
+loop-j-preserved-then-is_for c =
+    let o = c.loop-j.invariant.1 in
+    let y = c.in-Some.ensures.steps in
+    (search rules, further o y _ (served _ _ _ _ _ _ _ (own_here o y).1 (rw c.code.ensures at c.is_for.ensures) _ c.if-is_for.true c.step_links.ensures))
 
 pub loop-j-preserved : goal.loop-j-preserved
 loop-j-preserved c =
     let o = c.loop-j.invariant.1 in
-    (search rules, scan_turn _ _ _ (λ k s e. not_served _ _ _ _ _ _ e) _ _ _ _ _ o (served _ _ _ _ _ _ _ (o.here (omega arith)) c.step_links.ensures) c.next_fun-j-in-loop-j.ensures)
+    let y = c.in-Some.ensures.steps in
+    (search rules, further o y _ (passed_by _ _ _ _ _ _ _ (own_here o y).1 (rw c.code.ensures at c.is_for.ensures) c.if-is_for.false))
 
 pub returns : goal.returns
 unfolding steps
-returns c = scan_end _ _ _ _ _ _ c.loop-j.invariant.1 (λ h. omega arith)
+returns c = walk_end (λ k s e. not_standing _ _ _ _ _ _ e) c.loop-j.invariant.1 c.in-None.ensures.steps.1.0

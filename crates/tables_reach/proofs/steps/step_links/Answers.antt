@@ -1,19 +1,19 @@
-use native.Mathlib.Omega.{arith}
 use borrow.Author.Rules.{rules}
 use Rattle.tables_reach.proofs.Crossings.{crossed, not_crossed}
-use Rattle.tables_reach.proofs.Scans.{scan_start, scan_turn, scan_end}
+use Rattle.tables_reach.proofs.Scans.{walk_on, walk_end, own_here, further}
 use Rattle.tables_reach.proofs.steps.step_links.Goals as goal
 
 pub loop-i-init : goal.loop-i-init
-loop-i-init c = (search rules, scan_start _ _ _ (λ k s e. not_crossed _ _ _ _ _ e) _ _ c.next_link-i.ensures)
+loop-i-init c = (search rules, walk_on (λ k s e. not_crossed _ _ _ _ _ e) _ (rw (← c.into_iter-i-iterator.ensures.into_iter_gives) at c.links_of-i-items.ensures.stretch))
 
-pub loop-i-smaller : goal.loop-i-smaller
-loop-i-smaller c = omega (arith, c.next_link-i-in-loop-i.ensures.from_here)
+pub step-requires : goal.step-requires
+step-requires c = (search rules, (own_here c.loop-i.invariant.1 c.in-Some.ensures.steps).0, search rules)
 
 pub loop-i-preserved : goal.loop-i-preserved
 loop-i-preserved c =
     let o = c.loop-i.invariant.1 in
-    (search rules, scan_turn _ _ _ (λ k s e. not_crossed _ _ _ _ _ e) _ _ _ _ _ o (crossed _ _ _ _ _ _ (o.here (omega arith)) c.step.ensures) c.next_link-i-in-loop-i.ensures)
+    let y = c.in-Some.ensures.steps in
+    (search rules, further o y _ (crossed _ _ _ _ _ _ (own_here o y).1 c.step.ensures))
 
 pub returns : goal.returns
-returns c = scan_end _ _ _ _ _ _ c.loop-i.invariant.1 (λ h. omega arith)
+returns c = walk_end (λ k s e. not_crossed _ _ _ _ _ e) c.loop-i.invariant.1 c.in-None.ensures.steps.1.0
