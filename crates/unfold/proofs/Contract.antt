@@ -22,6 +22,7 @@ use Rattle.laws.proofs.Greedy.{leads_then, Seen, ended, began, seen}
 use Rattle.laws.proofs.Laid.{laid_none}
 use Rattle.laws.proofs.Unfold.{level_enter, level_conv, level_close, level_end, inner_left, bottom_unwrap, tunnel_enter, tunnel_close, passes_falls}
 use Rattle.laws.proofs.Room.{few_levels, records_fit}
+use Rattle.network.specs.Arranged.{Arranged}
 use Rattle.network.specs.Network.{nodes, protocols, places, hop_in}
 use Rattle.network.proofs.Steps.{steps_inside}
 use Rattle.unfold_frames.specs.Frames.{words_for, held_at, below}
@@ -54,7 +55,7 @@ at_end s (began s' i r j) h = absurd (omega (arith, ap (λ (ks : List Key). leng
 abbrev pub course_at : Place → (total k : ℕ) → Course
 course_at end total k = record { end = end; total = total; level = k }
 
-module _ {g W C : List ℕ} {c : Course} {L Q : List ℕ} {at : Spot} (asks : Asks g W C c L Q at) where
+module _ {g W C : List ℕ} {c : Course} {L Q : List ℕ} {at : Spot} (arranged : Arranged g) (asks : Asks g W C c L Q at) where
   abbrev n : ℕ
   n = nodes g
 
@@ -78,7 +79,7 @@ module _ {g W C : List ℕ} {c : Course} {L Q : List ℕ} {at : Spot} (asks : As
   b = c.end.protocol
 
   valid : Valid hop n p
-  valid = steps_inside g asks.stands.arranged
+  valid = steps_inside g arranged
 
   -- a step that is picked leaves one less
   pub picked_falls : {f : Frame} {gs : List Frame} {l : Key} {v x w m r z u q : ℕ} → Picked hop n p t f gs v x w m l r z u q → m ≡ suc q
@@ -118,8 +119,6 @@ module _ {g W C : List ℕ} {c : Course} {L Q : List ℕ} {at : Spot} (asks : As
     pub went_asks : length L' ≡ length L → length Q' ≡ length Q → Asks g W C c L' Q' here
     went_asks eL eQ = record {
       stands = record {
-        arranged = asks.stands.arranged;
-        square = asks.stands.square;
         exact = asks.stands.exact;
         room = rw eL asks.stands.room;
         state = rw (levels_same.0, levels_same.1) at i.moved.state;
@@ -167,8 +166,6 @@ module _ {g W C : List ℕ} {c : Course} {L Q : List ℕ} {at : Spot} (asks : As
       unfolding below inner
       tunnel_calls eL eQ = record {
         stands = record {
-          arranged = asks.stands.arranged;
-          square = asks.stands.square;
           exact = asks.stands.exact;
           room = omega (arith, record_fits, asks.choices);
           state = rw (is_inner, ← kept_held p words c.level kept, ← kept_below p words c.level kept) (tunnel_enter hop n p t D b valid asks.stands.exact inner.exits exits_found asks.stands.state y.picked);
@@ -197,19 +194,19 @@ module _ {g W C : List ℕ} {c : Course} {L Q : List ℕ} {at : Spot} (asks : As
 
 -- ## The end of a level
 
-module _ {g W C : List ℕ} (end : Place) (total : ℕ) where
+module _ {g W C : List ℕ} (arranged : Arranged g) (end : Place) (total : ℕ) where
   -- the unwrap that closes the level
   pub level_closes : (k : ℕ) {L L' Q Q' Q'' : List ℕ} {at here : Spot} {s : Step} → Asks g W C (course_at end total k) L Q at → Went g W C (course_at end total k) L L' Q Q' at here
       → TakenAs g W C L' k here s unwrap → Q'' ≡ laid Q' (4 * (total - here.left)) s.key → LevelEnsures g W C (course_at end total k) L L' Q Q'' at s.to
   unfolding below Left
-  level_closes zero asks i y e = absurd (bottom_unwrap (hop_in g) (nodes g) (protocols g) (table_in g W C) end.node end.protocol (valid asks) asks.stands.exact y.picked.passes)
+  level_closes zero asks i y e = absurd (bottom_unwrap (hop_in g) (nodes g) (protocols g) (table_in g W C) end.node end.protocol (valid arranged asks) asks.stands.exact y.picked.passes)
   level_closes (suc k) {L} {Q = Q} {at = at} {here} {s} asks i y e =
-      let y' : PickedIn g W C L (suc k) here (key y.l unwrap y.a y.e) s.to = rw ((levels_same asks i).0, (levels_same asks i).1) y.picked in
+      let y' : PickedIn g W C L (suc k) here (key y.l unwrap y.a y.e) s.to = rw ((levels_same arranged asks i).0, (levels_same arranged asks i).1) y.picked in
       record {
         ks = i.ks ++ key y.l unwrap y.a y.e ∷ [];
         wrote = wrote_then Q i.ks (key y.l unwrap y.a y.e ∷ []) total at.left here.left asks.fits i.moved.leads.counts i.wrote (rw y.spelled at e);
         kept = i.kept;
-        does = level_close (hop_in g) (nodes g) (protocols g) (table_in g W C) end.node end.protocol (valid asks) asks.stands.exact i.moved y';
+        does = level_close (hop_in g) (nodes g) (protocols g) (table_in g W C) end.node end.protocol (valid arranged asks) asks.stands.exact i.moved y';
         leaves = unwrap_bares (hop_in g) (nodes g) (protocols g) (table_in g W C) y'.passes;
       }
 
@@ -223,7 +220,7 @@ module _ {g W C : List ℕ} (end : Place) (total : ℕ) where
         ks = i.ks;
         wrote = i.wrote;
         kept = i.kept;
-        does = level_end (hop_in g) (nodes g) (protocols g) (table_in g W C) end.node end.protocol (valid asks) asks.stands.exact (rw e at i.moved);
+        does = level_end (hop_in g) (nodes g) (protocols g) (table_in g W C) end.node end.protocol (valid arranged asks) asks.stands.exact (rw e at i.moved);
         leaves = (ev, ex, sym goes.weighs ∙ ew, e);
       }
-  level_ends (suc k) asks i e = absurd (omega (arith, inner_left (hop_in g) (nodes g) (protocols g) (table_in g W C) end.node end.protocol (valid asks) asks.stands.exact i.moved.state))
+  level_ends (suc k) asks i e = absurd (omega (arith, inner_left (hop_in g) (nodes g) (protocols g) (table_in g W C) end.node end.protocol (valid arranged asks) asks.stands.exact i.moved.state))

@@ -20,6 +20,7 @@ use Rattle.laws.specs.Unfold.{Frame, frame, Levelled}
 use Rattle.laws.proofs.Fixpoint.{Valid}
 use Rattle.laws.proofs.Laid.{length_laid}
 use Rattle.laws.proofs.Unfold.{start as begin, unfold_best}
+use Rattle.network.specs.Arranged.{Arranged}
 use Rattle.network.specs.Network.{nodes, protocols, places, hop_in, place_in, number_of, Within}
 use Rattle.network.proofs.Steps.{steps_inside}
 use Rattle.unfold_frames.specs.Frames.{words_for, blank, mark, with_mark, held_at, below}
@@ -61,7 +62,7 @@ bottomed {g} {start} {end} L {L₁} {L₂} {w} {s} size q f e to room es eq ef e
       );
     }
 
-module _ {g W C : List ℕ} {start end : Place} {L Q : List ℕ} (y : Unfolds g W C start end L Q) where
+module _ {g W C : List ℕ} {start end : Place} {L Q : List ℕ} (arranged : Arranged g) (y : Unfolds g W C start end L Q) where
   abbrev hop : Key → ℕ → Option (ℕ × ℕ)
   hop = hop_in g
 
@@ -90,12 +91,12 @@ module _ {g W C : List ℕ} {start end : Place} {L Q : List ℕ} (y : Unfolds g 
   is_entry = rw (le-leb w₀ heaviest y.light)
 
   valid : Valid hop n p
-  valid = steps_inside g y.arranged
+  valid = steps_inside g arranged
 
   -- record 0 has its room
   pub bottom_room : 5 + words ≤ length L
   bottom_room =
-      let some : 1 ≤ places g = mul-le-mul y.arranged.valid.some_node y.arranged.valid.some_protocol in
+      let some : 1 ≤ places g = mul-le-mul arranged.valid.some_node arranged.valid.some_protocol in
       omega (arith, y.choices, mul-le-mul_right (places g) some)
 
   -- `level` may be called, and has then written the best route
@@ -129,8 +130,6 @@ module _ {g W C : List ℕ} {start end : Place} {L Q : List ℕ} (y : Unfolds g 
     unfolding below
     bottom_asks e = record {
       stands = record {
-        arranged = y.arranged;
-        square = record { small = y.arranged.valid.places; weights = y.weights; counts = y.counts };
         exact = y.exact;
         room = rw e (omega (arith, bottom_room));
         state = rw is_bottom (begin hop n p (table_in g W C) end.node end.protocol valid y.exact hides exits one_exit y.from.0 y.from.1 y.to.0 y.to.1 is_entry y.short);
@@ -163,7 +162,6 @@ module _ {g W C : List ℕ} {start end : Place} {L Q : List ℕ} (y : Unfolds g 
 
   pub part_asks : {L' : List ℕ} → 8 * (places g * places g) ≤ length L' → Unfolds g W C start end L' Q
   part_asks h = record {
-    arranged = y.arranged;
     exact = y.exact;
     from = y.from;
     to = y.to;

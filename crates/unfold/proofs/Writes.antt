@@ -1,5 +1,5 @@
 -- Steps written one after another, and the kind of a step that was picked. Assumes nothing.
-use Prim.Native.Nat.{ℕ, zero, suc, ◌+◌, ◌-◌, ◌*◌, ◌<◌, ◌≤◌}
+use Prim.Native.Nat.{ℕ, ◌+◌, ◌-◌, ◌*◌, ◌≤◌}
 use mathlib.Core.Path.{◌≡◌, refl, sym, ap, ◌∙◌}
 use mathlib.Core.List.{List, [], ◌∷◌, ◌++◌}
 use native.Mathlib.Omega.{arith}
@@ -10,6 +10,7 @@ use Rattle.paper.specs.Route.{flat}
 use Rattle.laws.proofs.Laid.{laid_seq}
 use Rattle.laws.proofs.Order.{code_inj}
 use Rattle.laws.proofs.Parts.{flat_append, flat_length}
+use Rattle.network_records.specs.Columns.{kind_of_code}
 use Rattle.unfold_tries.specs.declared.trial.Spot.{Spot}
 use Rattle.unfold_tries.specs.declared.trial.Step.{Step}
 use Rattle.unfold_picks.specs.Contract.{PickedIn, Taken}
@@ -19,6 +20,12 @@ pub wrote_then : (Q : List ℕ) {Q' Q'' : List ℕ} (ks js : List Key) (total n 
     → Q'' ≡ laid Q (4 * (total - n)) (flat (ks ++ js))
 wrote_then Q {Q'} {Q''} ks js total n m h e p q =
     rw (flat_append ks js) (laid_seq Q Q' Q'' (flat ks) (flat js) (4 * (total - n)) (4 * (total - m)) p (omega (arith, flat_length ks)) q)
+
+code_kind : (c : Kind) → kind_of_code (code c) ≡ c
+unfolding kind_of_code
+code_kind conv = refl
+code_kind wrap = refl
+code_kind unwrap = refl
 
 -- a step that was picked, of a kind that is known
 pub record TakenAs (g W C L : List ℕ) (k : ℕ) (at : Spot) (s : Step) (c : Kind) : Type 0 where
@@ -36,17 +43,16 @@ module _ {g W C L : List ℕ} {k : ℕ} {at : Spot} {s : Step} (y : Taken g W C 
       go : (j : Key) → s.key ≡ flat (j ∷ []) → PickedIn g W C L k at j s.to → TakenAs g W C L k at s c
       go (key l c' a e) i p = let same : c' ≡ c = code_inj c' c (ap (λ (j : List ℕ). get_or j 1 0) (sym i) ∙ h) in rw (← same) (record { l = l; a = a; e = e; spelled = i; picked = p })
 
-  kind_small : (j : Key) → s.key ≡ flat (j ∷ []) → get_or s.key 1 0 < 3
+  -- the code in a key is that of the kind that it stands for
+  pub coded : (c : Kind) → c ≡ kind_of_code (get_or s.key 1 0) → get_or s.key 1 0 ≡ code c
   unfolding flat
-  kind_small (key l conv a e) i = omega (arith, ap (λ (j : List ℕ). get_or j 1 0) i)
-  kind_small (key l wrap a e) i = omega (arith, ap (λ (j : List ℕ). get_or j 1 0) i)
-  kind_small (key l unwrap a e) i = omega (arith, ap (λ (j : List ℕ). get_or j 1 0) i)
-
-  pub taken_conv : (get_or s.key 1 0 ≡ 1 → ⊥) → (get_or s.key 1 0 ≡ 2 → ⊥) → TakenAs g W C L k at s conv
-  taken_conv h i = taken_as conv (small (get_or s.key 1 0) h i (kind_small y.key y.spelled))
+  coded c h = go y.key y.spelled
     where
-      small : (i : ℕ) → (i ≡ 1 → ⊥) → (i ≡ 2 → ⊥) → i < 3 → i ≡ 0
-      small zero a e l = refl
-      small (suc zero) a e l = absurd (a refl)
-      small (suc (suc zero)) a e l = absurd (e refl)
-      small (suc (suc (suc i))) a e l = absurd (omega arith)
+      go : (j : Key) → s.key ≡ flat (j ∷ []) → get_or s.key 1 0 ≡ code c
+      go (key l c' a e) i =
+          let is : get_or s.key 1 0 ≡ code c' = ap (λ (j : List ℕ). get_or j 1 0) i in
+          let same : c ≡ c' = h ∙ ap kind_of_code is ∙ code_kind c' in
+          rw same is
+
+  pub taken_by : (c : Kind) → c ≡ kind_of_code (get_or s.key 1 0) → TakenAs g W C L k at s c
+  taken_by c h = taken_as c (coded c h)

@@ -8,7 +8,6 @@ use Rattle.paper.specs.Route.{flat, Best}
 use Rattle.paper.specs.declared.place.Place.{Place}
 use Rattle.laws.specs.Unfold.{Exact}
 use Rattle.network.specs.Network.{nodes, protocols, places, hop_in, number_of, Within}
-use Rattle.network.specs.Arranged.{Arranged}
 use Rattle.unfold_frames.specs.Frames.{words_for, Headed, mark}
 use Rattle.unfold_picks.specs.Contract.{table_in}
 
@@ -22,7 +21,6 @@ module _ (g W C : List ℕ) (start end : Place) where
 
   -- exact tables, whose entry for the enquiry is a route's, and rooms that hold it: L and Q, the choice and the step room
   pub record Unfolds (L Q : List ℕ) : Type 0 where
-    pub arranged : Arranged g
     pub exact : Exact (hop_in g) (nodes g) (protocols g) (table_in g W C)
     pub from : Within g start
     pub to : Within g end

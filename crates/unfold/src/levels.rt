@@ -1,11 +1,13 @@
-// Level and tunnel unfolding, which call each other; what is left of the steps falls. The rooms of the lists are lent, so that a tunnel's frame stays small.
+// Level and tunnel unfolding, which call each other; what is left of the steps falls. The lists are lent, so that a tunnel's frame stays small.
 ghost use Rattle.std.specs.Prelude.{◌≡◌, ◌+◌, ◌*◌, ◌≤◌, length, get_or};
 ghost use Rattle.paper.specs.Rooms.{laid};
-ghost use Rattle.unfold_exits.specs.Lists.{Ample};
 ghost use Rattle.unfold_picks.specs.Contract.{Taken};
 ghost use Rattle.unfold.specs.Contract.{Asks, LevelEnsures, TunnelEnsures};
 
 use crate::course::Course;
+use network_records::kind::Kind;
+use unfold_exits::solved::Solved;
+use unfold_picks::looks::Lists;
 use unfold_picks::opens::open;
 use unfold_picks::pick::pick;
 use unfold_tries::trial::{Spot, Step};
@@ -21,45 +23,31 @@ fn put(steps: &mut [u16], done: usize, key: [u16; 4])
 // Unfolds the level that is open, from `at` on: its steps and tunnels, and the unwrap that closes it; at the bottom, to the route's end.
 #[cycle(level_tunnel)]
 pub fn level(
-    net: &[u32],
-    weight: &[u32],
-    count: &[u16],
+    solved: &Solved,
     choice: &mut [u16],
     steps: &mut [u16],
     course: Course,
     at: Spot,
-    exits: &mut [u64],
-    outs: &mut [u64],
+    lists: &mut Lists,
 ) -> Spot
-    requires { Asks net.now weight.now count.now course choice.old steps.old at × Ample exits.old × Ample outs.old }
-    ensures { LevelEnsures net.now weight.now count.now course choice.old choice.new steps.old steps.new at result }
+    requires { Asks solved.now.net.now solved.now.tables.weight.now solved.now.tables.count.now course choice.old steps.old at }
+    ensures { LevelEnsures solved.now.net.now solved.now.tables.weight.now solved.now.tables.count.now course choice.old choice.new steps.old steps.new at result }
 {
-    let end = course.end;
     let mut here = at;
     while 0 < here.left {
-        let s = pick(
-            net,
-            weight,
-            count,
-            choice,
-            end,
-            course.level,
-            here,
-            exits,
-            outs,
-        );
-        let key = s.key;
-        let kind = key[1];
-        if kind == 1 {
-            here = tunnel(
-                net, weight, count, choice, steps, course, here, s, exits, outs,
-            );
-        } else {
-            put(steps, usize::from(course.total - here.left), key);
-            if kind == 2 {
+        let s = pick(solved, choice, course.end, course.level, here, lists);
+        match Kind::from(s.key[1]) {
+            Kind::Conv => {
+                put(steps, usize::from(course.total - here.left), s.key);
+                here = s.to;
+            }
+            Kind::Wrap => {
+                here = tunnel(solved, choice, steps, course, here, s, lists);
+            }
+            Kind::Unwrap => {
+                put(steps, usize::from(course.total - here.left), s.key);
                 return s.to;
             }
-            here = s.to;
         }
     }
     here
@@ -68,41 +56,24 @@ pub fn level(
 // Unfolds the tunnel that the wrap s opens from `at` in the level that is open: the wrap, the inner level and its unwrap.
 #[cycle(level_tunnel)]
 pub fn tunnel(
-    net: &[u32],
-    weight: &[u32],
-    count: &[u16],
+    solved: &Solved,
     choice: &mut [u16],
     steps: &mut [u16],
     course: Course,
     at: Spot,
     s: Step,
-    exits: &mut [u64],
-    outs: &mut [u64],
+    lists: &mut Lists,
 ) -> Spot
-    requires asks { Asks net.now weight.now count.now course choice.old steps.old at × Ample exits.old × Ample outs.old }
-    requires key_value { (get_or s.key 1 0 ≡ 1) × Taken net.now weight.now count.now choice.old course.level at s }
-    ensures { TunnelEnsures net.now weight.now count.now course choice.old choice.new steps.old steps.new at result }
+    requires asks { Asks solved.now.net.now solved.now.tables.weight.now solved.now.tables.count.now course choice.old steps.old at }
+    requires key_value { (get_or s.key 1 0 ≡ 1) × Taken solved.now.net.now solved.now.tables.weight.now solved.now.tables.count.now choice.old course.level at s }
+    ensures { TunnelEnsures solved.now.net.now solved.now.tables.weight.now solved.now.tables.count.now course choice.old choice.new steps.old steps.new at result }
 {
-    let end = course.end;
-    let key = s.key;
-    let to = s.to;
-    put(steps, usize::from(course.total - at.left), key);
-    open(
-        net,
-        weight,
-        count,
-        choice,
-        end,
-        course.level,
-        at,
-        to,
-        exits,
-        outs,
-    );
+    put(steps, usize::from(course.total - at.left), s.key);
+    open(solved, choice, course.end, course.level, at, s.to, lists);
     let inward = Course {
-        end,
+        end: course.end,
         total: course.total,
         level: course.level + 1,
     };
-    level(net, weight, count, choice, steps, inward, to, exits, outs)
+    level(solved, choice, steps, inward, s.to, lists)
 }

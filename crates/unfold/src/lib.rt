@@ -4,9 +4,13 @@
 ghost use Rattle.unfold.specs.Unfolded.{Unfolds, Unfolded};
 
 use crate::bottom::write_route;
-use network::size::places;
+use network::Network;
 use paper::place::Place;
+use tables_costs::rooms::Tables;
+use unfold_exits::lists::Exits;
+use unfold_exits::solved::Solved;
 use unfold_frames::clear;
+use unfold_picks::looks::Lists;
 
 mod bottom;
 mod course;
@@ -14,31 +18,26 @@ mod levels;
 
 // Writes the steps of the best route of the enquiry from `start` to `end`; the first 8 N² entries of the choice room serve it, and hold zeros afterwards.
 pub fn unfold(
-    net: &[u32],
-    weight: &[u32],
-    count: &[u16],
+    net: &Network,
+    tables: &Tables,
     choice: &mut [u16],
     steps: &mut [u16],
     start: Place,
     end: Place,
 )
-    requires { Unfolds net.now weight.now count.now start end choice.old steps.old }
-    ensures { Unfolded net.now weight.now count.now start end choice.old choice.new steps.old steps.new }
+    requires { Unfolds net.now tables.now.weight.now tables.now.count.now start end choice.old steps.old }
+    ensures { Unfolded net.now tables.now.weight.now tables.now.count.now start end choice.old choice.new steps.old steps.new }
 {
-    let size = places(net);
+    let size = net.places();
     let room = 8 * (size * size);
-    let mut exits = [0u64; 2048];
-    let mut outs = [0u64; 2048];
-    write_route(
+    let solved = Solved {
         net,
-        weight,
-        count,
-        &mut choice[0..room],
-        steps,
-        start,
-        end,
-        &mut exits,
-        &mut outs,
-    );
+        tables: *tables,
+    };
+    let mut lists = Lists {
+        exits: Exits::new(),
+        outs: Exits::new(),
+    };
+    write_route(&solved, &mut choice[0..room], steps, start, end, &mut lists);
     clear(choice, 0, room);
 }

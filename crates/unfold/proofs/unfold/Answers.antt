@@ -14,10 +14,15 @@ overflow_mul-room-2 c = omega (arith, room_is c.places-size.ensures.0, c.require
 pub slice_bounds-write_route-end : goal.slice_bounds-write_route-end
 slice_bounds-write_route-end c = omega (arith, room_is c.places-size.ensures.0, c.requires.choices)
 
+pub invariant_of-solved : goal.invariant_of-solved
+invariant_of-solved c =
+    let o = c.places-size.ensures.3 in
+    record { arranged = o; square = record { small = o.valid.places; weights = c.requires.weights; counts = c.requires.counts } }
+
 pub write_route-requires : goal.write_route-requires
 write_route-requires c =
     let p = c.requires in
-    (part_asks p (rw length-take (omega (arith, room_is c.places-size.ensures.0, p.choices))), omega arith, omega arith)
+    part_asks c.places-size.ensures.3 p (rw length-take (omega (arith, room_is c.places-size.ensures.0, p.choices)))
 
 pub clear-requires : goal.clear-requires
 clear-requires c = omega (arith, room_is c.places-size.ensures.0, c.requires.choices)

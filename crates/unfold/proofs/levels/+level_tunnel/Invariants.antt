@@ -10,7 +10,7 @@ abbrev pub decreases-tunnel : goal.decreases-tunnel
 decreases-tunnel l = 2 * l.at.left
 
 abbrev pub invariant-level-loop-here : goal.invariant-level-loop-here
-invariant-level-loop-here l = Went l.net l.weight l.count l.course l.initial.choice l.choice l.initial.steps l.steps l.initial.here l.here
+invariant-level-loop-here l = Went l.solved.net.now l.solved.tables.weight.now l.solved.tables.count.now l.course l.initial.choice l.choice l.initial.steps l.steps l.initial.here l.here
 
 abbrev pub decreases-level-loop-here : goal.decreases-level-loop-here
 decreases-level-loop-here l = l.here.left
