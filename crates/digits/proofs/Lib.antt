@@ -1,4 +1,3 @@
-pub mod Table
 pub mod Reading
 pub mod Digits
 pub mod Writing

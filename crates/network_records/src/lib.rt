@@ -42,7 +42,7 @@ const Y: usize = 3;
 const FEE: usize = 4;
 
 // How large a network is.
-#[derive(Clone, Copy)]
+#[derive(Clone, Copy, Debug, PartialEq, Eq)]
 pub struct Size {
     pub nodes: usize,
     pub protocols: usize,
@@ -50,13 +50,7 @@ pub struct Size {
     pub funs: usize,
 }
 
-// A number of 32 bits as an index or a count.
-pub fn index(x: u32) -> usize
-    ensures { result ≡ x }
-{
-    x as usize
-}
-
+// Each reads one number by its name; one function over WIDTH and AT would be no plainer, since each call would spell both.
 pub fn link_number(links: &[u32], i: usize) -> u32
     requires { i * link_width + link_width ≤ length links.now }
     ensures { result ≡ number links.now i }
@@ -68,14 +62,14 @@ pub fn link_from(links: &[u32], i: usize) -> usize
     requires { i * link_width + link_width ≤ length links.now }
     ensures { result ≡ from links.now i }
 {
-    index(links[i * LINK_WIDTH + FROM])
+    links[i * LINK_WIDTH + FROM] as usize
 }
 
 pub fn link_to(links: &[u32], i: usize) -> usize
     requires { i * link_width + link_width ≤ length links.now }
     ensures { result ≡ to links.now i }
 {
-    index(links[i * LINK_WIDTH + TO])
+    links[i * LINK_WIDTH + TO] as usize
 }
 
 pub fn link_weight(links: &[u32], i: usize) -> u32
@@ -89,28 +83,28 @@ pub fn fun_node(funs: &[u32], j: usize) -> usize
     requires { j * fun_width + fun_width ≤ length funs.now }
     ensures { result ≡ node funs.now j }
 {
-    index(funs[j * FUN_WIDTH])
+    funs[j * FUN_WIDTH] as usize
 }
 
 pub fn fun_kind(funs: &[u32], j: usize) -> usize
     requires { j * fun_width + fun_width ≤ length funs.now }
     ensures { result ≡ kind funs.now j }
 {
-    index(funs[j * FUN_WIDTH + KIND])
+    funs[j * FUN_WIDTH + KIND] as usize
 }
 
 pub fn fun_x(funs: &[u32], j: usize) -> usize
     requires { j * fun_width + fun_width ≤ length funs.now }
     ensures { result ≡ x_of funs.now j }
 {
-    index(funs[j * FUN_WIDTH + X])
+    funs[j * FUN_WIDTH + X] as usize
 }
 
 pub fn fun_y(funs: &[u32], j: usize) -> usize
     requires { j * fun_width + fun_width ≤ length funs.now }
     ensures { result ≡ y_of funs.now j }
 {
-    index(funs[j * FUN_WIDTH + Y])
+    funs[j * FUN_WIDTH + Y] as usize
 }
 
 pub fn fun_weight(funs: &[u32], j: usize) -> u32

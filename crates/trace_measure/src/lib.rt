@@ -28,6 +28,7 @@ fn word_size(kind: Kind) -> usize
 }
 
 // The bytes of the stack's text after a step.
+#[tactic(auto, using(crate::proofs::Dots::by_conv, crate::proofs::Dots::by_wrap, crate::proofs::Dots::by_unwrap))]
 fn dots_after(key: [u16; 4], dots: usize) -> usize
     requires { (lost (key_of key) ≤ dots) × (dots ≤ most_dots) }
     ensures { result + lost (key_of key) ≡ dots + gained (key_of key) }
@@ -41,6 +42,7 @@ fn dots_after(key: [u16; 4], dots: usize) -> usize
     }
 }
 
+#[tactic(auto, unfolding(trace_replay::specs::Keys::key_of, crate::specs::Sizes::line_size))]
 fn line_size(key: [u16; 4], node: usize, dots: usize) -> usize
     requires { (node < 256) × (dots ≤ most_dots) }
     ensures { (result ≡ line_size (key_of key) node dots) × (result ≤ most_line) }

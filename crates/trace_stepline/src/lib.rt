@@ -14,6 +14,7 @@ use network_records::kind::Kind;
 use trace_replay::packet::Packet;
 
 // The protocol n of cell h: all but the lowest have a dot before them.
+#[tactic(auto, using(crate::proofs::Dotted::cell_lowest, crate::proofs::Dotted::cell_above))]
 fn put_cell(w: &mut Writer, h: usize, n: u32)
     requires { Holds w.old (cell_text h n) }
     ensures { Wrote w.old w.new (cell_text h n) }
@@ -35,6 +36,7 @@ fn put_cells(w: &mut Writer, cells: &[u8])
 }
 
 // A tab and the stack in the lowest cells.
+#[tactic(auto, using(crate::proofs::Dotted::lowest))]
 fn put_stack(w: &mut Writer, cells: &[u8], height: usize)
     requires { (height ≤ length cells.now) × Holds w.old (9 ∷ dotted (below cells.now height)) }
     ensures { Wrote w.old w.new (9 ∷ dotted (below cells.now height)) }

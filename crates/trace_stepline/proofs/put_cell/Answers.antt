@@ -1,19 +1,8 @@
 -- With a dot before it or without. Assumes nothing.
-use Rattle.std.proofs.Common.{arith}
 use Rattle.digits.proofs.Writing.{wrote_then}
 use Rattle.trace_stepline.proofs.Dotted.{cell_lowest, cell_above}
 use Rattle.trace_stepline.proofs.put_cell.Goals as goal
 use Rattle.trace_stepline.proofs.put_cell.Goals.{then-h-gt0, else-h-gt0}
-
-pub byte-requires : goal.byte-requires
-byte-requires c = omega (arith, rw (cell_above _ _ c.if-h-gt0.true) at c.requires)
-
-pub number-requires : goal.number-requires
-number-requires c =
-    elim c.if-h-gt0.branch [
-      | then-h-gt0 w ↦ rw w.w-is (omega (arith, rw (cell_above _ _ w.if-h-gt0.true) at c.requires, w.byte.ensures))
-      | else-h-gt0 w ↦ rw w.w-is (rw (cell_lowest _ _ w.if-h-gt0.false) at c.requires)
-    ]
 
 pub returns : goal.returns
 returns c =
