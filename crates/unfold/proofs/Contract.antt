@@ -6,7 +6,6 @@ use mathlib.Core.List.{List, [], ◌∷◌, ◌++◌}
 use mathlib.Core.Option.{Option, some}
 use mathlib.Core.Logic.{◌↔◌}
 use native.Mathlib.Omega.{arith}
-use native.Mathlib.Nat.{mul-le-mul_right}
 use lib.Dec.{T}
 use lib.ListN.{length}
 use Rattle.paper.specs.Net.{conv, wrap, unwrap, Key, key}
@@ -142,12 +141,6 @@ module _ {g W C : List ℕ} {c : Course} {L Q : List ℕ} {at : Spot} (arranged 
     tunnel_opens =
         let (cw, h, pw, pm) = wrap_parts hop n p t y.picked.passes in
         record { stands = asks.stands; link_number = y.l; spent = cw; wraps = h; weighs = pw; counts = pm; room = omega (arith, record_fits, asks.choices) }
-
-    -- there are fewer levels than entries
-    pub tunnel_few : suc (suc c.level) ≤ length L
-    tunnel_few =
-        let one : 1 ≤ words + 5 = omega arith in
-        omega (arith, mul-le-mul_right (suc (suc c.level)) one, record_fits, asks.choices)
 
     -- the wrap and the record written, `level` may be called, and `tunnel` has then done its part
     module _ {L₁ : List ℕ} (kept : KeptIn g c.level L L₁) (h : Records g W C L₁ c.level at.protocol s.to) where

@@ -25,10 +25,7 @@ module _ {size : ℕ} {W C L : List ℕ} {o : ℕ} {E : List Exit} {e : ℕ} (g 
   none_here : ((c : ℕ) → Leaves size W C L o e c → ⊥) → Gathered (LeavesBy size W C L o) (e + 1) E
   none_here none = gathered_past _ g (omega arith) (λ i e' c h k l. let f : e' ≡ e = omega (arith, l.place_is) in none c (rw f at l.leaves))
 
-  -- a place that is none of the `size`, one that is not marked, and one to which the way costs more than was left
-  pub place_past : size ≤ e → Gathered (LeavesBy size W C L o) (e + 1) E
-  place_past h = none_here (λ c l. omega (arith, l.below))
-
+  -- a place that is not marked, and one to which the way costs more than was left
   pub place_unmarked : (b : Bool) → b ≡ mark (words_for size) L o e → b ≡ false → Gathered (LeavesBy size W C L o) (e + 1) E
   place_unmarked b f h = none_here (λ c l. not_both (mark (words_for size) L o e) (sym f ∙ h) l.marked)
 
