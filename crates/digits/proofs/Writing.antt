@@ -1,16 +1,15 @@
 -- One writer after another, and a text written piece by piece. Assumes nothing.
 use mathlib.Core.Path.{◌≡◌, refl, sym, ap, ◌∙◌}
-use mathlib.Core.List.{List, [], ◌∷◌, ◌++◌, map, append_assoc}
+use mathlib.Core.List.{List, [], ◌∷◌, ◌++◌, map}
 use Prim.Native.Nat.{ℕ, suc, ◌+◌, ◌-◌, ◌<◌, ◌≤◌}
 use native.Mathlib.Numerals.{add-one}
 use native.Mathlib.Nat.{add-zero}
 use native.Mathlib.Omega.{arith}
-use lib.ListN.{length, get_or, set, take, drop, length-append}
-use lib.Seq.{sets-eq, drop-drop, drop-cons, drop-length}
+use lib.ListN.{length, get_or, set, drop, length-append}
+use lib.Seq.{drop-cons, drop-length}
 use borrow.Rule.Slice.PartMut.{put_mid}
-use Rattle.paper.specs.Rooms.{laid}
 use Rattle.paper.specs.Text.{decimal, tabbed}
-use Rattle.laws.proofs.Laid.{laid_none, laid_one, laid_then, laid_seq, length_laid}
+use Rattle.laws.proofs.Laid.{laid_none, laid_one, laid_then, laid_seq, length_laid, laid_part}
 use Rattle.digits.specs.declared.write.Writer.{Writer}
 use Rattle.digits.specs.Digits.{digit_byte, last_digits}
 use Rattle.digits.specs.Write.{Put, Left, Holds, Wrote, Leaves}
@@ -71,10 +70,7 @@ pub byte_put : (d : List ℕ) (i v : ℕ) → Put d (set d i v) i (i + 1) (v ∷
 byte_put d i v = record { next = refl; text = sym (laid_one d i v) }
 
 pub word_put : (d : List ℕ) (i : ℕ) (w v : List ℕ) → i + length w ≤ length d → v ≡ w → Put d (put_mid i (i + length w - i) d v) i (i + length w) w
-unfolding laid
-word_put d i w v h e =
-    let k : i + length w - i ≡ length w = omega arith in
-    record { next = refl; text = rw (e, k, sets-eq w d i h, drop-drop) (sym (append_assoc (take i d) w (drop (i + length w) d))) }
+word_put d i w v h e = record { next = refl; text = laid_part d v w i (length w) refl h e }
 
 -- ## A number: its last k digits are left
 

@@ -45,6 +45,7 @@ fn put_fun(w: &mut Writer, funs: &[u32], j: usize)
     w.byte(b'\n');
 }
 
+// Two loops and not one: one for both would take a closure and its contract, which is no plainer than the loop.
 #[tactic(auto, using(crate::proofs::Rows::all_rows, crate::proofs::Rows::rows_wrote), unfolding(network_records::specs::Columns::link_rows))]
 fn put_links(w: &mut Writer, links: &[u32], c: usize)
     requires { (c * link_width ≤ length links.now) × Holds w.old (texts link_text (link_rows c links.now)) }

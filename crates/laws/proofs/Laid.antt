@@ -1,12 +1,15 @@
 -- Laying one text over a room after another: what every writer's proof is made of. Assumes nothing.
 use mathlib.Core.Path.{◌≡◌, refl, sym, ◌∙◌}
 use mathlib.Core.List.{List, [], ◌∷◌, ◌++◌}
-use Prim.Native.Nat.{ℕ, zero, suc, ◌+◌, ◌<◌, ◌≤◌}
+use Prim.Native.Nat.{ℕ, zero, suc, ◌+◌, ◌-◌, ◌<◌, ◌≤◌}
 use native.Mathlib.Nat.{add-zero}
 use native.Mathlib.Omega.{arith}
 use lib.ListN.{length, get_or, set, length-set}
 use native.Mathlib.Decide.{dec_lt}
 use lib.Seq.{length-sets, get_or-set_same, get_or-set_other, ext_get_or}
+use Rattle.std.proofs.Common.{append_assoc}
+use Rattle.std.proofs.lemmas.List.Edits.{sets-eq}
+use borrow.Rule.Slice.PartMut.{put_mid, Post-is}
 use Rattle.paper.specs.Rooms.{laid}
 
 pub laid_none : (d : List ℕ) (i : ℕ) → laid d i [] ≡ d
@@ -68,3 +71,14 @@ laid_again d s h =
         let z : 0 + k ≡ k = omega arith in
         rw z at (laid_there (laid d 0 s) 0 s k l (omega (arith, length_laid d 0 s)) ∙ sym (laid_there d 0 s k l (omega arith)))
     go k (no l) = laid_past (laid d 0 s) 0 s k (omega arith)
+
+-- a part of the room, from entry o up to entry e, with the text in its place: what copying over a part leaves
+pub part_laid : (d s : List ℕ) (o e : ℕ) → o ≤ e → e ≤ length d → length s ≡ e - o → put_mid o (e - o) d s ≡ laid d o s
+unfolding laid
+part_laid d s o e h k f =
+    let g : o + length s ≡ e = omega arith in
+    rw (Post-is o e d h, sets-eq s d o (omega arith), g, append_assoc)
+
+-- the same of n entries from a on, with the text under another name
+pub laid_part : (d e s : List ℕ) (a n : ℕ) → n ≡ length s → a + n ≤ length d → e ≡ s → put_mid a (a + n - a) d e ≡ laid d a s
+laid_part d e s a n l h q = rw q (part_laid d s a (a + n) (omega arith) h (omega arith))

@@ -11,7 +11,8 @@ use std::io::Read;
 use std::rt::Files;
 use std::{fs, io};
 
-// As much of the input as the room holds, how much that is, and whether a read failed, which ends the reading.
+// As much of the input as the room holds, how much that is, and whether a read failed, which ends the reading;
+// the count stands after a failed read too, so that it is no part of the Result.
 pub fn read_full<R: Read>(input: &mut R, room: &mut [u8]) -> (usize, io::Result<()>)
     ensures fits { result.0 ≤ length room.new }
     ensures bytes { Consumes (R.remaining input.old) (R.remaining input.new) (take result.0 room.new) }

@@ -26,7 +26,6 @@ pub still_sweeping : {g W C H : List ℕ} (W' C' H' : List ℕ) → Sweeping g W
     → Sweeping g W' C' H'
 still_sweeping W' C' H' s a b c =
     record {
-      arranged = s.arranged;
       roomy = record { few = s.roomy.few; weights = rw a s.roomy.weights; counts = rw b s.roomy.counts };
       stamps = rw c s.stamps;
     }

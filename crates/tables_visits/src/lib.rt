@@ -3,15 +3,25 @@
 
 ghost use Rattle.std.specs.Prelude.{◌≡◌, false, cond, ◌<◌, length, set};
 ghost use Rattle.network.specs.Network.{nodes, Within};
-ghost use Rattle.tables_sweeps.specs.Sweep.{stage, visited, node_rows, turned, sweep, Passing};
+ghost use Rattle.tables_costs.specs.Rooms.{SameRooms};
+ghost use Rattle.tables_sweeps.specs.Sweep.{stage, visited, node_rows, sweep, Passing};
 ghost use Rattle.tables_ways.specs.Asked.{Sweeping};
 
 use crate::news::is_settled;
-use network::size::{nodes, number_of, protocols};
+use network::Network;
 use paper::place::Place;
+use tables_costs::rooms::TablesMut;
+use tables_spread::news::News;
 use tables_ways::sweep_row;
 
 mod news;
+
+// The stamp that rows get which fall in a sweep, and the stamp from which on a row counts as new in it.
+#[derive(Clone, Copy)]
+pub struct Round {
+    pub stamp: u32,
+    pub since: u32,
+}
 
 // The stamp of row r, where it fell.
 fn mark(stamps: &mut [u32], r: usize, stamp: u32, fell: bool)
@@ -25,69 +35,70 @@ fn mark(stamps: &mut [u32], r: usize, stamp: u32, fell: bool)
 
 // The row of a place, passed over where it leans on nothing new. The result: whether this or anything earlier fell.
 fn visit(
-    net: &[u32],
-    weight: &mut [u32],
-    count: &mut [u16],
+    net: &Network,
+    tables: &mut TablesMut,
     stamps: &mut [u32],
-    stamp: u32,
-    since: u32,
+    round: Round,
     at: Place,
     fell: bool,
 ) -> bool
-    requires { Sweeping net.now weight.old count.old stamps.old × Within net.now at }
-    ensures { Passing net.now stamp since (stage weight.old count.old stamps.old fell) (visited net.now stamp since at.node at.protocol) (stage weight.new count.new stamps.new result) }
+    requires { Sweeping net.now tables.old.weight.now tables.old.count.now stamps.old × Within net.now at }
+    ensures same_rooms { SameRooms tables.old tables.new }
+    ensures passing { Passing net.now round.stamp round.since (stage tables.old.weight.now tables.old.count.now stamps.old fell) (visited net.now round.stamp round.since at.node at.protocol) (stage tables.new.weight.now tables.new.count.now stamps.new result) }
 {
-    if is_settled(net, stamps, since, at) {
+    let news = News {
+        stamps,
+        since: round.since,
+    };
+    if is_settled(net, &news, at) {
         return fell;
     }
-    let r = sweep_row(net, weight, count, stamps, since, at);
-    mark(stamps, number_of(net, at), stamp, r);
+    let r = sweep_row(net, tables, &news, at);
+    mark(stamps, net.number_of(at), round.stamp, r);
     fell | r
 }
 
 // The rows of node v.
 fn visit_node(
-    net: &[u32],
-    weight: &mut [u32],
-    count: &mut [u16],
+    net: &Network,
+    tables: &mut TablesMut,
     stamps: &mut [u32],
-    stamp: u32,
-    since: u32,
+    round: Round,
     v: usize,
     fell: bool,
 ) -> bool
-    requires { Sweeping net.now weight.old count.old stamps.old × (v < nodes net.now) }
-    ensures { Passing net.now stamp since (stage weight.old count.old stamps.old fell) (node_rows net.now stamp since v) (stage weight.new count.new stamps.new result) }
+    requires { Sweeping net.now tables.old.weight.now tables.old.count.now stamps.old × (v < nodes net.now) }
+    ensures same_rooms { SameRooms tables.old tables.new }
+    ensures passing { Passing net.now round.stamp round.since (stage tables.old.weight.now tables.old.count.now stamps.old fell) (node_rows net.now round.stamp round.since v) (stage tables.new.weight.now tables.new.count.now stamps.new result) }
 {
     let mut any = fell;
-    for x in 0..protocols(net) {
+    for x in 0..net.protocols() {
         let row = Place {
             node: v,
             protocol: x,
         };
-        any = visit(net, weight, count, stamps, stamp, since, row, any);
+        any = visit(net, tables, stamps, round, row, any);
     }
     any
 }
 
-// All rows: whether an entry fell.
+// All rows, from the first node on or from the last: whether an entry fell.
 pub fn sweep_all(
-    net: &[u32],
-    weight: &mut [u32],
-    count: &mut [u16],
+    net: &Network,
+    tables: &mut TablesMut,
     stamps: &mut [u32],
-    stamp: u32,
-    since: u32,
+    round: Round,
     back: bool,
 ) -> bool
-    requires { Sweeping net.now weight.old count.old stamps.old }
-    ensures { Passing net.now stamp since (stage weight.old count.old stamps.old false) (sweep net.now stamp since back) (stage weight.new count.new stamps.new result) }
+    requires { Sweeping net.now tables.old.weight.now tables.old.count.now stamps.old }
+    ensures same_rooms { SameRooms tables.old tables.new }
+    ensures passing { Passing net.now round.stamp round.since (stage tables.old.weight.now tables.old.count.now stamps.old false) (sweep net.now round.stamp round.since back) (stage tables.new.weight.now tables.new.count.now stamps.new result) }
 {
-    let n = nodes(net);
+    let n = net.nodes();
     let mut any = false;
     for k in 0..n {
         let v = if back { n - 1 - k } else { k };
-        any = visit_node(net, weight, count, stamps, stamp, since, v, any);
+        any = visit_node(net, tables, stamps, round, v, any);
     }
     any
 }

@@ -6,13 +6,9 @@ use mathlib.Core.List.{List}
 use Rattle.network.specs.Network.{places, place_in}
 use Rattle.tables_costs.specs.Costs.{blank}
 use Rattle.tables_costs.specs.Cells.{Cells, cells}
-use Rattle.tables_sweeps.specs.Row.{goings, reach, ways, merged, row}
+use Rattle.tables_sweeps.specs.Row.{ways, merged, row}
 
 module _ (g W C : List ℕ) (v x : ℕ) (H : List ℕ) (since size here : ℕ) (s : size ≡ places g) (p : here ≡ place_in g v x) where
-  pub found_ways : (a y y' : List ℕ) → a ≡ reach g W C v x (blank 1024) → y' ≡ goings W C size H since (here * size) a y → y' ≡ ways g W C H since v x y
-  unfolding ways
-  found_ways a y y' e f = rw (← e, ← s, ← p) f
-
   pub row_done : (base : ℕ) (y : List ℕ) (t : Cells) → y ≡ ways g W C H since v x (blank 1024) → base ≡ here * size → t ≡ merged base size y (cells W C false)
       → t ≡ row g H since v x (cells W C false)
   unfolding row

@@ -29,6 +29,7 @@ impl Packet {
     }
 
     // The packet after one step: where the step leads, or the packet as it was where it leads nowhere.
+    #[tactic(auto, using(crate::proofs::Ways::stays, crate::proofs::Ways::arrives))]
     pub fn stepped(self, net: &Network, key: [u16; 4]) -> Self
         requires { Here net.now self }
         ensures { result ≡ after net.now (key_of key) self }

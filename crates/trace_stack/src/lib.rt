@@ -28,6 +28,7 @@ impl Stack {
     }
 
     // The step function: of the stack that is lent to it, one cell and the height are stored.
+    #[tactic(auto, using(crate::proofs::Cells::cell_in, crate::proofs::Cells::stored_acted))]
     pub fn step_in(&mut self, kind: Kind, y: u8)
         requires { Ready (named kind) y self.old }
         ensures { items self.new ≡ acted (named kind) y (items self.old) }

@@ -1,6 +1,6 @@
 use mathlib.Core.Path.{refl}
 use native.Mathlib.Omega.{arith}
-use Rattle.file_rows.proofs.Laying.{laid_part}
+use Rattle.laws.proofs.Laid.{laid_part}
 use Rattle.network_arrange.proofs.head.Goals as goal
 
 pub returns : goal.returns

@@ -1,3 +1,4 @@
+use borrow.Author.Rules.{rules}
 use mathlib.Core.Path.{◌≡◌, refl, ◌∙◌}
 use mathlib.Core.Bool.{cond}
 use Rattle.tables.proofs.Settling.{settling_begun, settling_turn, left_less, settled}
@@ -9,21 +10,22 @@ pub prepare-requires : goal.prepare-requires
 prepare-requires c = rw c.places.ensures.0 c.requires.roomy
 
 pub loop-done-init : goal.loop-done-init
-loop-done-init c = settling_begun _ _ _ _ _ _ _ c.requires.roomy (rw c.places.ensures.0 at c.prepare.ensures)
+loop-done-init c = (search rules, settling_begun _ _ _ _ _ _ _ c.requires.roomy (rw c.places.ensures.0 at c.prepare.ensures.prepared))
 
 pub sweep_all-fell-requires : goal.sweep_all-fell-requires
 sweep_all-fell-requires c =
-    let k = c.loop-done.invariant in
-    let b = c.prepare.auto in
-    still_sweeping _ _ _ c.requires (k.kept.same_ws ∙ b.weight) (k.kept.same_cs ∙ b.count) k.stamps
+    let k = c.loop-done.invariant.0 in
+    let b = c.prepare.ensures.same_rooms in
+    still_sweeping _ _ _ c.requires (k.2 ∙ b.2) (k.3 ∙ b.3) c.loop-done.invariant.1.stamps
 
 pub loop-done-smaller : goal.loop-done-smaller
 loop-done-smaller c =
-    let e : c.if-fell.since ≡ cond c.sweep_all-fell.result c.loop-done.stamp 0 = elim c.if-fell.branch [ then-fell w ↦ rw w.if-fell.true w.since-is | else-fell w ↦ rw w.if-fell.false w.since-is ] in
-    left_less _ _ _ _ _ _ _ _ _ _ _ _ c.requires.arranged c.sweep_all-fell.ensures refl _ _ _ _ _ c.loop-done.invariant c.loop-done-test.true e
+    let e : c.if-fell.since ≡ cond c.sweep_all-fell.result c.loop-done.round.stamp 0 = elim c.if-fell.branch [ then-fell w ↦ rw w.if-fell.true w.since-is | else-fell w ↦ rw w.if-fell.false w.since-is ] in
+    left_less _ _ _ _ _ _ _ _ _ _ _ _ c.places.ensures.3 c.sweep_all-fell.ensures.passing refl _ _ _ _ _ c.loop-done.invariant.1 c.loop-done-test.true e
 
 pub loop-done-preserved : goal.loop-done-preserved
-loop-done-preserved c = settling_turn _ _ _ _ _ _ _ _ _ _ _ _ c.requires.arranged c.sweep_all-fell.ensures refl _ _ _ _ c.loop-done.invariant c.sweep_all-fell.auto.stamps
+loop-done-preserved c =
+    (search rules, settling_turn _ _ _ _ _ _ _ _ _ _ _ _ c.places.ensures.3 c.sweep_all-fell.ensures.passing refl _ _ _ _ c.loop-done.invariant.1 c.sweep_all-fell.auto.stamps)
 
-pub returns : goal.returns
-returns c = settled _ _ _ _ _ _ _ _ _ _ c.requires.arranged c.requires.roomy (rw c.places.ensures.0 at c.prepare.ensures) _ c.loop-done.invariant c.loop-done-test.false
+pub returns-clause-filled : goal.returns-clause-filled
+returns-clause-filled c = settled _ _ _ _ _ _ _ _ _ _ c.places.ensures.3 c.requires.roomy (rw c.places.ensures.0 at c.prepare.ensures.prepared) _ c.loop-done.invariant.1 c.loop-done-test.false
