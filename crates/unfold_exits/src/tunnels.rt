@@ -22,8 +22,9 @@ fn cross(solved: &Solved, exits: &[Exit], x: usize, i: usize) -> u64
         node: net.link_to(i),
         protocol: x,
     };
-    let row = row_of(net.places(), net.number_of(to));
-    step_cost(net.link_weight(i), 1) + finish(solved, exits, row)
+    let size = net.places();
+    let row = row_of(size, net.number_of(to));
+    step_cost(net.link_weight(i), 1) + finish(&solved.tables, exits, size, row)
 }
 
 // Link i, for the node that it leaves.

@@ -23,7 +23,7 @@ fn mark_out(solved: &Solved, out: &Exit, row: usize, left: u64, choice: &mut [u1
     requires record_room { o + 5 + words_for (places solved.now.net.now) ≤ length choice.old }
     ensures { Adds (words_for (places solved.now.net.now)) o (Meets solved.now.tables.weight.now solved.now.tables.count.now out.now row left) choice.old choice.new }
 {
-    if over_exit(solved, row, out) == left {
+    if over_exit(&solved.tables, row, out) == left {
         add_mark(choice, o, out.place);
     }
 }

@@ -34,9 +34,10 @@ fn way_over(solved: &Solved, exits: &[Exit], f: Use, i: usize) -> u64
         node: net.link_to(i),
         protocol: f.onto,
     };
-    let row = row_of(net.places(), net.number_of(to));
+    let size = net.places();
+    let row = row_of(size, net.number_of(to));
     let spent = step_cost(f.weight + net.link_weight(i), 1);
-    finish(solved, exits, row) + spent
+    finish(&solved.tables, exits, size, row) + spent
 }
 
 // The better of `best` and the step over link i of the node, if that passes.
