@@ -1,14 +1,10 @@
 -- What the stores of a record lay over the room: facts that the proofs of the code cite. Assumes nothing.
-use Prim.Native.Nat.{ℕ, ◌+◌, ◌-◌, ◌*◌, ◌/◌, ◌%◌, ◌^◌, ◌<◌, ◌≤◌}
+use Prim.Native.Nat.{ℕ, ◌+◌, ◌*◌, ◌/◌, ◌%◌, ◌^◌, ◌<◌}
 use mathlib.Core.Path.{◌≡◌, refl, ◌∙◌}
 use mathlib.Core.List.{List, [], ◌∷◌}
-use native.Mathlib.Omega.{arith}
 use native.Mathlib.Nat.{one-mul, mod-eq_of_lt}
-use lib.ListN.{length, replicate}
-use Rattle.std.proofs.Common.{append_assoc}
-use Rattle.std.proofs.lemmas.List.Edits.{sets-eq}
+use lib.ListN.{replicate}
 use lib.Pow.{pow-lt}
-use borrow.Rule.Slice.PartMut.{put_mid, Post-is}
 use Rattle.paper.specs.Rooms.{laid}
 use Rattle.laws.proofs.Laid.{laid_seq}
 use Rattle.unfold_frames.specs.Frames.{blank}
@@ -16,13 +12,6 @@ use Rattle.unfold_frames.specs.Frames.{blank}
 -- a power of two that a word holds
 pub power_fits : (b : ℕ) → b < 16 → 1 * 2 ^ b % 65536 ≡ 2 ^ b
 power_fits b h = (rw (one-mul (2 ^ b))) ∙ mod-eq_of_lt (pow-lt {i = b} {j = 16} h)
-
--- a part of the room, from entry o up to entry e, with s in its place
-pub part_laid : (d s : List ℕ) (o e : ℕ) → o ≤ e → e ≤ length d → length s ≡ e - o → put_mid o (e - o) d s ≡ laid d o s
-unfolding laid
-part_laid d s o e h k f =
-    let g : o + length s ≡ e = omega arith in
-    rw (Post-is o e d h, sets-eq s d o (omega arith), g, append_assoc)
 
 -- the head, then the words
 pub blank_laid : (d d₁ d₂ : List ℕ) (o words place hidden weight steps : ℕ) → d₁ ≡ laid d o (place ∷ hidden ∷ weight % 65536 ∷ weight / 65536 ∷ steps ∷ [])

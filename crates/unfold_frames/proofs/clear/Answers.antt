@@ -3,7 +3,7 @@ use lib.ListN.{replicate, length-replicate}
 use native.Mathlib.Omega.{arith}
 use Prim.Native.Nat.{ℕ, ◌+◌, ◌-◌}
 use borrow.Rule.Slice.PartMut.{mid_len}
-use Rattle.unfold_frames.proofs.Stores.{part_laid}
+use Rattle.laws.proofs.Laid.{part_laid}
 use Rattle.unfold_frames.proofs.clear.Goals as goal
 
 pub returns : goal.returns

@@ -1,6 +1,6 @@
 use Prim.Native.Nat.{◌+◌}
 use native.Mathlib.Omega.{arith}
-use Rattle.unfold_frames.proofs.Stores.{part_laid}
+use Rattle.laws.proofs.Laid.{part_laid}
 use Rattle.unfold_frames.proofs.head.Goals as goal
 
 pub returns : goal.returns
