@@ -37,7 +37,7 @@ module _ (g : List ℕ) where
         kept = kept_none _ _ _;
         stamps = refl;
         sound = λ v. (begun g v W C W' C' r o.weights o.counts e).sound;
-        still = λ v f. absurd (let z : ◌≡◌ {A = ℕ} 0 1 = cc in omega arith);
+        still = λ v f. cc;
       }
 
   module _ (stamp since : ℕ) (back : Bool) (W C H W' C' H' : List ℕ) (r done : Bool) (known : Arranged g)
@@ -52,7 +52,7 @@ module _ (g : List ℕ) where
         }
 
     pub left_less : (W₀ C₀ H₀ : List ℕ) (before : Bool) (next : ℕ) → Settling W₀ C₀ H₀ W C H before → before ≡ false → next ≡ cond r stamp 0 → left W' C' next done < left W C since before
-    left_less W₀ C₀ H₀ true next s b h = absurd (let z : ◌≡◌ {A = ℕ} 0 1 = cc in omega arith)
+    left_less W₀ C₀ H₀ true next s b h = cc
     left_less W₀ C₀ H₀ false next s b h =
         left_falls g known stamp since W C H W' C' H' r (swept g known stamp since back W C H W' C' H' r (s.sound known) e) done next f h
 

@@ -6,7 +6,7 @@ use mathlib.Core.Bool.{Bool, true, false, ◌&&◌, ◌||◌}
 use mathlib.Core.Logic.{◌⊎◌, inl, inr}
 use native.Mathlib.Omega.{arith}
 use native.Mathlib.Decide.{dec_le}
-use borrow.Author.Tests.{le-leb, lt-leb, ltb-true, ltb-false, eqb-true, eqb-false}
+use borrow.Author.Tests.{le-leb, ltb-true, ltb-false, eqb-true, eqb-false}
 use lib.Dec.{ltb, eqb}
 use Rattle.laws.specs.Value.{Value, within, over, never, cap, Le, plus, heft, count}
 use Rattle.laws.proofs.Cap.{cap_light, cap_heavy, plus_never}
@@ -15,14 +15,6 @@ use Rattle.tables_costs.specs.Cells.{value, less}
 pub value_light : (w s : ℕ) → w ≤ 4000000000 → value w s ≡ within w s
 unfolding value
 value_light w s h = rw (le-leb w 4000000000 h)
-
-value_over : (w s : ℕ) → 4000000000 < w → w ≤ 4294967294 → value w s ≡ over
-unfolding value
-value_over w s h k = rw (lt-leb w 4000000000 h, le-leb w 4294967294 k)
-
-value_never : (w s : ℕ) → 4294967294 < w → value w s ≡ never
-unfolding value
-value_never w s h = let g : 4000000000 < w = omega arith in rw (lt-leb w 4000000000 g, lt-leb w 4294967294 h)
 
 -- what two entries can spell
 unfoldable pub Good : Value → Type 0
@@ -58,16 +50,16 @@ less_true w s v r = go (ltb w v) (eqb w v) (ltb s r) refl refl refl
     go : (a b c : Bool) → ltb w v ≡ a → eqb w v ≡ b → ltb s r ≡ c → (a || (b && c)) ≡ true → (w < v) ⊎ ((w ≡ v) × (s < r))
     go true b c e f g h = inl (ltb-true w v e)
     go false true true e f g h = inr (eqb-true w v f, ltb-true s r g)
-    go false true false e f g h = absurd (let z : ◌≡◌ {A = ℕ} 0 1 = cc in omega arith)
-    go false false c e f g h = absurd (let z : ◌≡◌ {A = ℕ} 0 1 = cc in omega arith)
+    go false true false e f g h = cc
+    go false false c e f g h = cc
 
 pub less_false : (w s v r : ℕ) → less w s v r ≡ false → (v < w) ⊎ ((v ≡ w) × (r ≤ s))
 unfolding less
 less_false w s v r = go (ltb w v) (eqb w v) (ltb s r) refl refl refl
   where
     go : (a b c : Bool) → ltb w v ≡ a → eqb w v ≡ b → ltb s r ≡ c → (a || (b && c)) ≡ false → (v < w) ⊎ ((v ≡ w) × (r ≤ s))
-    go true b c e f g h = absurd (let z : ◌≡◌ {A = ℕ} 0 1 = cc in omega arith)
-    go false true true e f g h = absurd (let z : ◌≡◌ {A = ℕ} 0 1 = cc in omega arith)
+    go true b c e f g h = cc
+    go false true true e f g h = cc
     go false true false e f g h = inr (sym (eqb-true w v f), ltb-false s r g)
     go false false c e f g h = let k = ltb-false w v e in let l = eqb-false w v f in inl (omega arith)
 

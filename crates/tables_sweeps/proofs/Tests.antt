@@ -3,7 +3,6 @@ use Prim.Native.Nat.{ℕ}
 use mathlib.Core.Path.{◌≡◌, refl}
 use mathlib.Core.Bool.{Bool, true, false, ◌&&◌}
 use mathlib.Core.List.{List}
-use native.Mathlib.Omega.{arith}
 use borrow.Author.Tests.{eqb-true, eq-eqb}
 use lib.Dec.{eqb}
 use Rattle.network.specs.Network.{from, node, kind, x_of}
@@ -11,7 +10,7 @@ use Rattle.network.specs.Next.{leaves, suits}
 
 pub and_true : (a b : Bool) → (a && b) ≡ true → (a ≡ true) × (b ≡ true)
 and_true true b e = (refl, e)
-and_true false b e = absurd (let z : ◌≡◌ {A = ℕ} 0 1 = cc in omega arith)
+and_true false b e = cc
 
 pub leaves_true : (g : List ℕ) (v i : ℕ) → leaves g v i ≡ true → from g i ≡ v
 unfolding leaves
