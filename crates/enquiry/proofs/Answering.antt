@@ -47,22 +47,21 @@ module _ (g : List ℕ) (start end : Place) where
         (ltb-true end.node n (and_right s d m), ltb-true end.protocol p (and_right (s && d && a) b k)),
       )
 
-  pub answers_6 : (t : Bool) (o : Outcome) (r : Rooms) → t ≡ known_in → t ≡ false → o ≡ refusal 6 0 → AnswersIn g start end r o r
-  answers_6 t o r e h f = rw f (six (sym e ∙ h))
+  pub answers_6 : (t : Bool) (r : Rooms) → t ≡ known_in → t ≡ false → AnswersIn g start end r (refusal 6 0) r
+  answers_6 t r e h = six (sym e ∙ h)
 
-  pub answers_7 : (t u : Bool) (o : Outcome) (N : ℕ) (W C X Q T : List ℕ) → t ≡ known_in → t ≡ true → N ≡ places g → u ≡ enough_for N W C X → u ≡ false → o ≡ refusal 7 0
-      → AnswersIn g start end (rooms W C X Q T) o (rooms W C X Q T)
-  answers_7 t u o N W C X Q T e h z d x f = rw f (seven (sym e ∙ h) (rooms_judged (places g) W C X Q T u false (rw z at d) x))
+  pub answers_7 : (t u : Bool) (N : ℕ) (W C X Q T : List ℕ) → t ≡ known_in → t ≡ true → N ≡ places g → u ≡ enough_for N W C X → u ≡ false
+      → AnswersIn g start end (rooms W C X Q T) (refusal 7 0) (rooms W C X Q T)
+  answers_7 t u N W C X Q T e h z d x = seven (sym e ∙ h) (rooms_judged (places g) W C X Q T u false (rw z at d) x)
 
-pub long_enough : (g : List ℕ) (N : ℕ) (W C X : List ℕ) (u : Bool) → Arranged g → N ≡ places g → u ≡ enough_for N W C X → u ≡ true → Lent g W C X
-long_enough g N W C X u o z e h =
+pub long_enough : (g : List ℕ) (N : ℕ) (W C X : List ℕ) (u : Bool) → N ≡ places g → u ≡ enough_for N W C X → u ≡ true → Lent g W C X
+long_enough g N W C X u z e h =
     let w = leb (places g * places g) (length W) in
     let c = leb (places g * places g) (length C) in
     let x = leb (8 * (places g * places g)) (length X) in
     let k : w && c && x ≡ true = rw z at (sym e ∙ h) in
     let l = and_left (w && c) x k in
     record {
-      arranged = o;
       weights = leb-true (places g * places g) (length W) (and_left w c l);
       counts = leb-true (places g * places g) (length C) (and_right w c l);
       choices = leb-true (8 * (places g * places g)) (length X) (and_right (w && c) x k);
@@ -75,12 +74,12 @@ clear_again g X X' h e =
     let l : length z ≡ 8 * (places g * places g) = length-replicate {A = ℕ} (8 * (places g * places g)) 0 in
     rw e (laid_again X z (omega (arith, l)))
 
-module _ (g W C X W' C' X' : List ℕ) (lent : Lent g W C X) (table : Tabled (hop_in g) (nodes g) (protocols g) W C X W' C' X') (filled : Filled g W C W' C') where
+module _ (g W C X W' C' X' : List ℕ) (o : Arranged g) (lent : Lent g W C X) (table : Tabled (hop_in g) (nodes g) (protocols g) W C X W' C' X') (filled : Filled g W C W' C') where
   pub made_ready : Ready g W' C' X'
   made_ready =
       record {
+        arranged = o;
         lent = record {
-          arranged = lent.arranged;
           weights = rw filled.weights_length lent.weights;
           counts = rw filled.counts_length lent.counts;
           choices = rw (table.choices, length_laid) lent.choices;

@@ -2,51 +2,42 @@
 use Prim.Native.Nat.{ℕ}
 use mathlib.Core.Path.{◌≡◌, refl, sym, ap, ◌∙◌}
 use mathlib.Core.List.{List}
-use borrow.Author.Tests.{eq-eqb, ne_eqb}
-use Rattle.paper.specs.Net.{Net}
-use Rattle.paper.specs.File.{refused, accepted, judge}
+use Rattle.std.specs.Prelude.{Ok, Err}
+use Rattle.paper.specs.File.{refused, judge}
 use Rattle.paper.specs.Outcome.{Outcome, refusal, Rooms, Routed, bad_file, good_file}
-use Rattle.paper.specs.declared.place.Place.{Place}
+use Rattle.paper.specs.Faults.{number_of}
+use Rattle.paper.specs.declared.fault.Refusal.{Refusal}
+use Rattle.paper.specs.declared.place.Enquiry.{Enquiry}
 use Rattle.network_records.specs.declared.Size.{Size}
 use Rattle.network_records.specs.Columns.{link_rows, fun_rows, net_of, hop_of}
 use Rattle.file_read.specs.Judge.{judged_of}
 use Rattle.network.specs.Network.{nodes, protocols, hop_in}
 use Rattle.network.specs.Arranged.{Arranged}
 use Rattle.network_arrange.specs.Arrangement.{Arrangement}
-use Rattle.enquiry.specs.Loaded.{Loaded}
+use Rattle.enquiry.specs.Loaded.{Holds}
 use Rattle.enquiry.specs.Ready.{AnswersIn}
 
-refused_by : (file : List ℕ) (d i : ℕ) (m : Net) → judged_of d i m ≡ judge file → (d ≡ 0 → ⊥) → judge file ≡ refused d i
-unfolding judged_of
-refused_by file d i m e h = sym e ∙ rw (ne_eqb d 0 h)
+module _ (file : List ℕ) (ls fs : List ℕ) where
+  pub loaded_bad : (r : Refusal) → judged_of (Err r) ls fs ≡ judge file → judge file ≡ refused (number_of r.fault) r.line
+  loaded_bad r e = sym e
 
-accepted_by : (file : List ℕ) (d i : ℕ) (m : Net) → judged_of d i m ≡ judge file → d ≡ 0 → judge file ≡ accepted m
-unfolding judged_of
-accepted_by file d i m e h = sym e ∙ rw (eq-eqb d 0 h)
-
-pub loaded_bad : (file : List ℕ) (d i : ℕ) (m : Net) (g : List ℕ) → judged_of d i m ≡ judge file → (d ≡ 0 → ⊥) → Loaded file d i g
-loaded_bad file d i m g e h = record { refuses = refused_by file d i m e; holds = λ z. absurd (h z) }
-
-pub loaded_good : (file : List ℕ) (d i : ℕ) (z : Size) (ls fs g : List ℕ) → judged_of d i (net_of z ls fs) ≡ judge file → d ≡ 0 → Arrangement z ls fs g → Arranged g → hop_in g ≡ hop_of z ls fs
-    → Loaded file d i g
-unfolding net_of hop_of
-loaded_good file d i z ls fs g e h a o l =
-    let n : nodes g ≡ z.nodes = ap (λ (y : Size). y.nodes) a.headed in
-    let p : protocols g ≡ z.protocols = ap (λ (y : Size). y.protocols) a.headed in
-    record {
-      refuses = λ q. absurd (q h);
-      holds = λ _. record {
+  pub loaded_good : (z : Size) (g : List ℕ) → judged_of (Ok z) ls fs ≡ judge file → Arrangement z ls fs g → Arranged g → hop_in g ≡ hop_of z ls fs → Holds file g
+  unfolding net_of hop_of
+  loaded_good z g e a o l =
+      let n : nodes g ≡ z.nodes = ap (λ (y : Size). y.nodes) a.headed in
+      let p : protocols g ≡ z.protocols = ap (λ (y : Size). y.protocols) a.headed in
+      record {
         arranged = o;
         links = link_rows z.links ls;
         funs = fun_rows z.funs fs;
-        accepts = rw (n, p) (accepted_by file d i (net_of z ls fs) e h);
+        accepts = rw (n, p) (sym e);
         leads = l ∙ rw (n, p) refl;
-      };
-    }
+      }
 
-module _ (file : List ℕ) (S a D b d i : ℕ) (g : List ℕ) (x : Loaded file d i g) (o : Outcome) where
-  pub routed_bad : (r : Rooms) → (d ≡ 0 → ⊥) → o ≡ refusal d i → Routed file S a D b r o r
-  routed_bad r h f = rw f (bad_file (x.refuses h))
+module _ (file : List ℕ) (S a D b : ℕ) (o : Outcome) where
+  pub routed_bad : (q : Refusal) (r : Rooms) → judge file ≡ refused (number_of q.fault) q.line → o ≡ refusal (number_of q.fault) q.line → Routed file S a D b r o r
+  routed_bad q r e f = rw f (bad_file e)
 
-  pub routed_good : (start end : Place) (r s : Rooms) → d ≡ 0 → start.node ≡ S → start.protocol ≡ a → end.node ≡ D → end.protocol ≡ b → AnswersIn g start end r o s → Routed file S a D b r o s
-  routed_good start end r s h eS ea eD eb y = let z = x.holds h in good_file z.accepts (rw (z.leads, eS, ea, eD, eb) at y)
+  pub routed_good : (g : List ℕ) (e : Enquiry) (r s : Rooms) (u : Outcome) → Holds file g → e.start.node ≡ S → e.start.protocol ≡ a → e.end.node ≡ D → e.end.protocol ≡ b
+      → AnswersIn g e.start e.end r u s → o ≡ u → Routed file S a D b r o s
+  routed_good g e r s u h eS ea eD eb y f = rw f (good_file h.accepts (rw (h.leads, eS, ea, eD, eb) at y))

@@ -1,7 +1,9 @@
 -- A network file in memory: refused, or the network that it gives. Assumes nothing: these are definitions.
-use Rattle.std.specs.Prelude.{ℕ, ◌≡◌, List}
+use Rattle.std.specs.Prelude.{ℕ, ◌≡◌, List, Result, Ok, Err}
 use Rattle.paper.specs.Net.{Link, Fun, net, hop}
 use Rattle.paper.specs.File.{refused, accepted, judge}
+use Rattle.paper.specs.Faults.{number_of}
+use Rattle.paper.specs.declared.fault.Refusal.{Refusal}
 use Rattle.network.specs.Network.{nodes, protocols, hop_in}
 use Rattle.network.specs.Arranged.{Arranged}
 
@@ -13,6 +15,7 @@ pub record Holds (file g : List ℕ) : Type 0 where
   pub accepts : judge file ≡ accepted (net (nodes g) (protocols g) links funs)
   pub leads : hop_in g ≡ hop (net (nodes g) (protocols g) links funs)
 
-pub record Loaded (file : List ℕ) (number line : ℕ) (g : List ℕ) : Type 0 where
-  pub refuses : (number ≡ 0 → ⊥) → judge file ≡ refused number line
-  pub holds : number ≡ 0 → Holds file g
+-- the file is refused at a line, or its network is in memory
+abbrev pub Loaded : List ℕ → Result (List ℕ) Refusal → Type 0
+Loaded file (Ok g) = Holds file g
+Loaded file (Err r) = judge file ≡ refused (number_of r.fault) r.line

@@ -7,6 +7,7 @@ use Rattle.paper.specs.declared.place.Place.{Place}
 use Rattle.laws.specs.Unfold.{Exact}
 use Rattle.tables_costs.specs.Cells.{Spells, pair_at, table}
 use Rattle.network.specs.Network.{nodes, protocols, places, hop_in, Within}
+use Rattle.network.specs.Arranged.{Arranged}
 use Rattle.tables.specs.Lent.{Lent}
 use Rattle.unfold.specs.Unfolded.{weighs_in, counts_in}
 
@@ -16,6 +17,7 @@ cleared g X = laid X 0 (replicate (8 * (places g * places g)) 0)
 
 -- the network, its tables, and a choice room whose first 8 × N² entries are 0
 pub record Ready (g W C X : List ℕ) : Type 0 where
+  pub arranged : Arranged g
   pub lent : Lent g W C X
   pub exact : Exact (hop_in g) (nodes g) (protocols g) (table (nodes g) (protocols g) W C)
   pub spelled : (S a D b : ℕ) → S < nodes g → a < protocols g → D < nodes g → b < protocols g

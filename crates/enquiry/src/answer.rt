@@ -1,24 +1,26 @@
-// An enquiry of a network in memory: 6, 7, then the tables and what they say.
+// An enquiry of a network in memory: outside it, without room for its tables, or what the tables say.
 ghost use Rattle.std.specs.Prelude.{◌≡◌, ◌&&◌, ◌*◌, ◌≤◌, leb};
-ghost use Rattle.paper.specs.Outcome.{outcome_of, rooms, known};
+ghost use Rattle.paper.specs.Outcome.{rooms, known};
+ghost use Rattle.paper.specs.Answers.{outcome_given};
 ghost use Rattle.network.specs.Network.{nodes, protocols};
-ghost use Rattle.network.specs.Arranged.{Arranged};
 ghost use Rattle.enquiry.specs.Ready.{AnswersIn};
 
-use crate::travel::{refusal, travel};
-use network::size::{nodes, places, protocols};
-use paper::outcome::Outcome;
-use paper::place::Place;
+use crate::travel::travel;
+use network::Network;
+use paper::outcome::{Denial, Found};
+use paper::place::Enquiry;
 use tables::fill;
+use tables_costs::rooms::Tables;
 
 // Whether both are places of the network.
-pub fn in_range(net: &[u32], start: Place, end: Place) -> bool
-    requires { Arranged net.now }
-    ensures { result ≡ known (nodes net.now) (protocols net.now) start.node start.protocol end.node end.protocol }
+#[tactic(auto, unfolding(paper::specs::Outcome::known))]
+pub fn in_range(net: &Network, enquiry: Enquiry) -> bool
+    ensures { result ≡ known (nodes net.now) (protocols net.now) enquiry.start.node enquiry.start.protocol enquiry.end.node enquiry.end.protocol }
 {
-    let n = nodes(net);
-    let p = protocols(net);
-    (((start.node < n) & (end.node < n)) & (start.protocol < p)) & (end.protocol < p)
+    let n = net.nodes();
+    let p = net.protocols();
+    let (start, end) = (enquiry.start, enquiry.end);
+    start.node < n && end.node < n && start.protocol < p && end.protocol < p
 }
 
 // Whether rooms of these lengths are long enough for the tables of `size` places.
@@ -27,28 +29,27 @@ fn enough(size: usize, weights: usize, counts: usize, choices: usize) -> bool
     ensures { result ≡ leb (size * size) weights && leb (size * size) counts && leb (8 * (size * size)) choices }
 {
     let entries = size * size;
-    ((entries <= weights) & (entries <= counts)) & (8 * entries <= choices)
+    entries <= weights && entries <= counts && 8 * entries <= choices
 }
 
+// The five rooms stand apart, as they are lent from C: of a struct that holds them, one cannot be read while another is lent.
 pub fn answer(
-    net: &[u32],
-    start: Place,
-    end: Place,
+    net: &Network,
+    enquiry: Enquiry,
     weight: &mut [u32],
     count: &mut [u16],
     choice: &mut [u16],
     step: &mut [u16],
     text: &mut [u8],
-) -> Outcome
-    requires { Arranged net.now }
-    ensures { AnswersIn net.now start end (rooms weight.old count.old choice.old step.old text.old) (outcome_of result) (rooms weight.new count.new choice.new step.new text.new) }
+) -> Result<Found, Denial>
+    ensures { AnswersIn net.now enquiry.start enquiry.end (rooms weight.old count.old choice.old step.old text.old) (outcome_given result) (rooms weight.new count.new choice.new step.new text.new) }
 {
-    if !in_range(net, start, end) {
-        return refusal(6, 0);
+    if !in_range(net, enquiry) {
+        return Err(Denial::OutsideNetwork);
     }
-    if !enough(places(net), weight.len(), count.len(), choice.len()) {
-        return refusal(7, 0);
+    if !enough(net.places(), weight.len(), count.len(), choice.len()) {
+        return Err(Denial::RoomsTooShort);
     }
     fill(net, weight, count, choice);
-    travel(net, start, end, weight, count, choice, step, text)
+    travel(net, &Tables { weight, count }, enquiry, choice, step, text)
 }

@@ -5,11 +5,9 @@ ghost use Rattle.paper.specs.Outcome.{outcome_of, rooms, Routed};
 
 use crate::answer::answer;
 use crate::load::load;
-use crate::travel::refusal;
 use network::size::ROOM;
-use network_records::index;
 use paper::outcome::Outcome;
-use paper::place::Place;
+use paper::place::{Enquiry, Place};
 
 pub mod answer;
 pub mod load;
@@ -29,18 +27,20 @@ pub fn route(
 ) -> Outcome
     ensures { Routed file.now s a d b (rooms weight.old count.old choice.old step.old text.old) (outcome_of result) (rooms weight.new count.new choice.new step.new text.new) }
 {
-    let mut net = [0u32; ROOM];
-    let j = load(file, &mut net);
-    if j.number != 0 {
-        return refusal(j.number, j.line);
-    }
-    let start = Place {
-        node: index(s),
-        protocol: index(a),
+    let mut room = [0u32; ROOM];
+    let net = match load(file, &mut room) {
+        Ok(net) => net,
+        Err(refusal) => return Outcome::from(refusal),
     };
-    let end = Place {
-        node: index(d),
-        protocol: index(b),
+    let enquiry = Enquiry {
+        start: Place {
+            node: s as usize,
+            protocol: a as usize,
+        },
+        end: Place {
+            node: d as usize,
+            protocol: b as usize,
+        },
     };
-    answer(&net, start, end, weight, count, choice, step, text)
+    Outcome::from(answer(&net, enquiry, weight, count, choice, step, text))
 }

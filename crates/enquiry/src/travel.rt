@@ -1,122 +1,86 @@
-// One enquiry of a network whose tables are filled: 8, 9, 10, 11 or 0.
-ghost use Rattle.std.specs.Prelude.{◌≡◌, ◌+◌, ◌*◌, ◌<◌, length, get_or};
-ghost use Rattle.paper.specs.Outcome.{outcome_of, refusal, most_steps};
+// From filled tables to what an enquiry comes to: no route within the limits, or the best one, unfolded into the step room, and its trace.
+ghost use Rattle.std.specs.Prelude.{◌≡◌, ◌+◌, ◌*◌, ◌<◌, length};
+ghost use Rattle.paper.specs.Outcome.{most_steps};
+ghost use Rattle.paper.specs.Answers.{outcome_given, handed_out};
 ghost use Rattle.network.specs.Network.{places, number_of, Within};
-ghost use Rattle.network.specs.Arranged.{Arranged};
 ghost use Rattle.enquiry.specs.Ready.{Ready, Fit, EndsIn, cleared};
 
-use network::size::{number_of, places};
+use network::Network;
 use paper::limits::{NEVER_MARK, OVER_MARK};
-use paper::outcome::Outcome;
-use paper::place::Place;
+use paper::outcome::{Denial, Found};
+use paper::place::Enquiry;
+use tables_costs::entry::Entry;
+use tables_costs::rooms::Tables;
 use trace::trace;
+use trace_replay::steps::Steps;
 use unfold::unfold;
 
-pub fn refusal(number: u32, line: u32) -> Outcome
-    ensures { outcome_of result ≡ refusal number line }
-{
-    Outcome {
-        number,
-        line,
-        weight: 0,
-        steps: 0,
-        length: 0,
-    }
-}
-
 // How many steps a step room of m entries and the limit allow.
+#[tactic(auto, unfolding(paper::specs::Outcome::most_steps))]
 fn most(m: usize) -> usize
     ensures { result ≡ most_steps m }
 {
-    let held = m / 4;
-    if held < 4096 { held } else { 4096 }
+    (m / 4).min(4096)
 }
 
 // Where the entry of the two places stands.
-fn pair(net: &[u32], start: Place, end: Place) -> usize
-    requires { Arranged net.now × Within net.now start × Within net.now end }
-    ensures { (result ≡ number_of net.now start * places net.now + number_of net.now end) × (result < places net.now * places net.now) }
+fn pair(net: &Network, enquiry: Enquiry) -> usize
+    requires { Within net.now enquiry.start × Within net.now enquiry.end }
+    ensures { (result ≡ number_of net.now enquiry.start * places net.now + number_of net.now enquiry.end) × (result < places net.now * places net.now) }
 {
-    number_of(net, start) * places(net) + number_of(net, end)
+    net.number_of(enquiry.start) * net.places() + net.number_of(enquiry.end)
 }
 
-// The best route into the step room, and its trace into the text room where it fits: 0 or 11.
+// The best route, of this weight and these steps, into the step room, and its trace into the text room where it fits.
 fn hand_out(
-    net: &[u32],
-    start: Place,
-    end: Place,
-    weight: &[u32],
-    count: &[u16],
+    net: &Network,
+    tables: &Tables,
+    enquiry: Enquiry,
+    best: Entry,
     choice: &mut [u16],
     step: &mut [u16],
     text: &mut [u8],
-    w: u32,
-    k: usize,
-) -> Outcome
-    requires { Ready net.now weight.now count.now choice.old × Fit net.now start end weight.now count.now step.old w k }
-    ensures ends_in { EndsIn net.now start end step.old text.old (outcome_of result) step.new text.new }
+) -> Found
+    requires { Ready net.now tables.now.weight.now tables.now.count.now choice.old × Fit net.now enquiry.start enquiry.end tables.now.weight.now tables.now.count.now step.old best.weight best.count }
+    ensures ends_in { EndsIn net.now enquiry.start enquiry.end step.old text.old (handed_out result.weight result.steps result.length) step.new text.new }
     ensures choice_after { choice.new ≡ cleared net.now choice.old }
 {
-    unfold(net, weight, count, choice, step, start, end);
-    let t = trace(net, start, w, step, k, text);
-    if t.fits {
-        return Outcome {
-            number: 0,
-            line: 0,
-            weight: w,
-            steps: k as u32,
-            length: t.length,
-        };
-    }
-    Outcome {
-        number: 11,
-        line: 0,
-        weight: w,
-        steps: k as u32,
-        length: 0,
+    unfold(net, tables, choice, step, enquiry.start, enquiry.end);
+    let steps = Steps {
+        start: enquiry.start,
+        room: step,
+        count: best.count as usize,
+    };
+    let length = trace(net, &steps, best.weight, text);
+    Found {
+        weight: best.weight,
+        steps: best.count as u32,
+        length,
     }
 }
 
-fn entry(room: &[u16], i: usize) -> usize
-    requires { i < length room.now }
-    ensures { result ≡ get_or room.now i 0 }
-{
-    let k = room[i];
-    wide(k)
-}
-
-fn wide(k: u16) -> usize
-    ensures { result ≡ k }
-{
-    k as usize
-}
-
-// The enquiry's outcome, from the entries of its two places.
+// What the entries of its two places say of an enquiry.
 pub fn travel(
-    net: &[u32],
-    start: Place,
-    end: Place,
-    weight: &[u32],
-    count: &[u16],
+    net: &Network,
+    tables: &Tables,
+    enquiry: Enquiry,
     choice: &mut [u16],
     step: &mut [u16],
     text: &mut [u8],
-) -> Outcome
-    requires { Ready net.now weight.now count.now choice.old × Within net.now start × Within net.now end }
-    ensures ends_in { EndsIn net.now start end step.old text.old (outcome_of result) step.new text.new }
+) -> Result<Found, Denial>
+    requires { Ready net.now tables.now.weight.now tables.now.count.now choice.old × Within net.now enquiry.start × Within net.now enquiry.end }
+    ensures ends_in { EndsIn net.now enquiry.start enquiry.end step.old text.old (outcome_given result) step.new text.new }
     ensures choice_after { choice.new ≡ cleared net.now choice.old }
 {
-    let at = pair(net, start, end);
-    let w = weight[at];
-    if w == NEVER_MARK {
-        return refusal(8, 0);
+    let best = tables.read(pair(net, enquiry));
+    if best.weight == NEVER_MARK {
+        return Err(Denial::NoRoute);
     }
-    if w == OVER_MARK {
-        return refusal(9, 0);
+    if best.weight == OVER_MARK {
+        return Err(Denial::TooHeavy);
     }
-    let k = entry(count, at);
-    if most(step.len()) < k {
-        return refusal(10, 0);
+    if most(step.len()) < usize::from(best.count) {
+        return Err(Denial::TooLong);
     }
-    hand_out(net, start, end, weight, count, choice, step, text, w, k)
+    Ok(hand_out(net, tables, enquiry, best, choice, step, text))
 }
