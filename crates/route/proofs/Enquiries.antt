@@ -1,5 +1,5 @@
 -- One enquiry of a run; between two of them the tables and the cleared choice room stay as they are. Assumes nothing.
-use mathlib.Core.Path.{◌≡◌, sym, ◌∙◌}
+use mathlib.Core.Path.{◌≡◌, sym, ap, ◌∙◌}
 use mathlib.Core.Bool.{Bool, true, false}
 use mathlib.Core.List.{List}
 use mathlib.Core.Option.{Option}
@@ -10,10 +10,10 @@ use lib.ListN.{length}
 use Rattle.paper.specs.Net.{Key}
 use Rattle.paper.specs.Trace.{trace}
 use Rattle.paper.specs.Program.{Replies, six, seven, on}
-use Rattle.paper.specs.Outcome.{Outcome, outcome, known, Ends, eight, nine, ten, eleven, zero as found}
+use Rattle.paper.specs.declared.outcome.Outcome.{Outcome as Returned}
+use Rattle.paper.specs.Outcome.{Outcome, outcome, outcome_of, refusal, known, Ends, eight, nine, ten, eleven, zero as found}
 use Rattle.laws.proofs.Laid.{length_laid}
 use Rattle.network.specs.Network.{places}
-use Rattle.network.specs.Arranged.{Arranged}
 use Rattle.tables.specs.Lent.{Lent}
 use Rattle.enquiry.specs.Ready.{Ready, cleared}
 
@@ -21,19 +21,19 @@ told : Outcome → ℕ
 told (outcome d i w s l) = l
 
 module _ {hop : Key → ℕ → Option (ℕ × ℕ)} {n p S a D b : ℕ} {tabled : Bool} {Q T : List ℕ} where
-  pub is_6 : (k : Bool) {d i w s l : ℕ} → k ≡ known n p S a D b → k ≡ false → outcome d i w s l ≡ outcome 6 0 0 0 0 → Replies hop n p S a D b tabled Q T (outcome d i w s l) Q T
-  is_6 k e f h = rw h (six (sym e ∙ f))
+  pub is_6 : (k : Bool) → k ≡ known n p S a D b → k ≡ false → Replies hop n p S a D b tabled Q T (refusal 6 0) Q T
+  is_6 k e f = six (sym e ∙ f)
 
-  pub is_7 : (k : Bool) {d i w s l : ℕ} → k ≡ known n p S a D b → k ≡ true → tabled ≡ false → outcome d i w s l ≡ outcome 7 0 0 0 0 → Replies hop n p S a D b tabled Q T (outcome d i w s l) Q T
-  is_7 k e f t h = rw h (seven (sym e ∙ f) t)
+  pub is_7 : (k : Bool) → k ≡ known n p S a D b → k ≡ true → tabled ≡ false → Replies hop n p S a D b tabled Q T (refusal 7 0) Q T
+  is_7 k e f t = seven (sym e ∙ f) t
 
   pub goes_on : (k : Bool) {o : Outcome} {Q' T' : List ℕ} → k ≡ known n p S a D b → k ≡ true → tabled ≡ true → Ends hop n p S a D b Q T o Q' T' → Replies hop n p S a D b tabled Q T o Q' T'
   goes_on k e f t h = on (sym e ∙ f) t h
 
   -- what is told to be in the text room is there
-  pub in_room : {d i w s l : ℕ} {Q' T' : List ℕ} → Replies hop n p S a D b tabled Q T (outcome d i w s l) Q' T' → l ≤ length T'
+  pub in_room : (o : Returned) {u : Outcome} {Q' T' : List ℕ} → outcome_of o ≡ u → Replies hop n p S a D b tabled Q T u Q' T' → o.length ≤ length T'
   unfolding told
-  in_room e = go e
+  in_room o e r = omega (arith, ap told e, go r)
     where
       ends : {o : Outcome} {Q' T' : List ℕ} → Ends hop n p S a D b Q T o Q' T' → told o ≤ length T'
       ends (eight h) = omega arith
@@ -51,8 +51,8 @@ pub still_ready : (g W C X X' : List ℕ) → X' ≡ cleared g X → Ready g W C
 still_ready g W C X X' e r = let f : X' ≡ X = e ∙ sym r.clear in rw f r
 
 -- the tables of 64 places fit the program's rooms
-pub small : (g : List ℕ) (N : ℕ) (W C X : List ℕ) → Arranged g → N ≡ places g → N ≤ 64 → length W ≡ 4096 → length C ≡ 4096 → length X ≡ 32768 → Lent g W C X
-small g N W C X o e h w c x =
+pub small : (g : List ℕ) (N : ℕ) (W C X : List ℕ) → N ≡ places g → N ≤ 64 → length W ≡ 4096 → length C ≡ 4096 → length X ≡ 32768 → Lent g W C X
+small g N W C X e h w c x =
     let m : places g ≤ 64 = rw e at h in
     let q = mul-le-mul m m in
-    record { arranged = o; weights = omega (arith, q); counts = omega (arith, q); choices = omega (arith, q) }
+    record { weights = omega (arith, q); counts = omega (arith, q); choices = omega (arith, q) }
