@@ -51,6 +51,13 @@ def parameters(text):
         yield m.start(), re.findall(r"(?:^|,)\s*(?:mut )?(\w+)\s*:(?!:)", inside) + (["self"] if re.match(r"\s*&?(mut )?self", inside) else [])
 
 
+def own_options(text):
+    """An enum with a bare case beside cases that hold values."""
+    for m in re.finditer(r"^ *(?:pub )?enum \w+ \{\n(.*?)^ *\}", text, re.M | re.S):
+        if re.search(r"^ *\w+,$", m.group(1), re.M) and "(" in m.group(1):
+            yield m.start()
+
+
 def together(*names):
     return lambda text: [at for at, ps in parameters(text) if all(n in ps for n in names)]
 
@@ -60,11 +67,11 @@ def many(most):
 
 
 POINTS = [
-    ("1 own Option: an enum with a bare case beside cases that hold values", matches(r"^ *(pub )?enum \w+ \{\n(?=(?:.*\n)*? *\w+,\n)(?=(?:.*\n)*? *\w+\()[^}]*\}")),
-    ("1 a flag or a refusal's number with values beside it, in a struct", matches(r"^ *(pub )?struct (?!Outcome)\w+ \{\n( .*\n)*? *(pub )?(number: u32|fits: bool),")),
+    ("1 own Option: an enum with a bare case beside cases that hold values", own_options),
+    ("1 a flag or a refusal's number with values beside it, in a struct", matches(r"^ *(pub )?struct (?!Outcome|Link)\w+ \{\n( .*\n)*? *(pub )?(number: u32|fits: bool),")),
     ("1 a refusal as a number: what a function answers or makes", matches(r"^    return 5;|^        return [345];(?=\n    \}\n)|\brefus(al|ed)\(\d+, |^ *number: (\d+|j\.number|number),|\{ number: \d+,")),
     ("1 a kind as a number, in a signature or a field", matches(r"\bkind: (u16|u32|usize)\b|^fn put_kind|^pub fn put_kind|\bis_for\(.*\bk: usize")),
-    ("1 a number or an end that stands for `none`", matches(r"return 10;|^pub fn (find|next_link|next_fun)\(|^fn (link_of|fun_of)\(|fn next_fun\(")),
+    ("1 a number or an end that stands for `none`", matches(r"return 10;|\bfn (find|next_link|next_fun|link_of|fun_of)\([^)]*\) -> usize")),
     ("3 loops that count an index by hand", counted_loops),
     ("3 other while loops", lambda text: [at for at in matches(r"^ *while ")(text) if at not in counted_loops(text)]),
     ("4 conversions, order and reads by a function of their own", matches(r"\bfn (wide|index|few|least|later|held|cost_there|stamp_of|power|zero|copy_up)\(")),
@@ -83,7 +90,7 @@ POINTS = [
 for name, rule in POINTS:
     places = []
     for path, text in sources():
-        for at in rule(text):
+        for at in sorted(rule(text)):
             line = text.count("\n", 0, at) + 1
             places.append(f"    {path}:{line}: {text[at:].lstrip().splitlines()[0]}")
     print(f"{len(places):4}  {name}")

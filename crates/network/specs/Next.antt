@@ -1,5 +1,5 @@
 -- Which records a walk over those of a node yields: just those that a scan of all records finds. Assumes nothing: these are definitions.
-use Rattle.std.specs.Prelude.{ℕ, ◌<◌, ◌≤◌, ◌≡◌, Bool, true, false, ◌&&◌, List, eqb}
+use Rattle.std.specs.Prelude.{ℕ, ◌<◌, ◌≤◌, ◌≡◌, Bool, true, false, ◌&&◌, List, eqb, Option, Some, None}
 use Rattle.network.specs.Network.{from, node, kind, x_of}
 
 -- link i leaves node v
@@ -28,3 +28,8 @@ pub record Next (test : ℕ → Bool) (n i r : ℕ) : Type 0 where
   pub at_most : r ≤ n
   pub none_before : (k : ℕ) → i ≤ k → k < r → test k ≡ false
   pub holds : r < n → test r ≡ true
+
+-- the first of the numbers below n of which the test holds, or none where it holds of none
+abbrev pub First : (test : ℕ → Bool) (n : ℕ) → Option ℕ → Type 0
+First test n None = Next test n 0 n
+First test n (Some i) = (i < n) × Next test n 0 i

@@ -9,7 +9,7 @@ use crate::cost::cost_of;
 use crate::entry::Entry;
 use paper::limits::NEVER_MARK;
 
-// The rooms, to be read.
+// The rooms, to be read. They carry no invariant: tried with a model, and then no index `base + q` could be shown to fit.
 #[derive(Clone, Copy)]
 pub struct Tables<'a> {
     pub weight: &'a [u32],
@@ -62,7 +62,8 @@ impl TablesMut<'_> {
         }
     }
 
-    // Stores e at i where it is lighter than what stands there. The result: whether this or anything earlier fell.
+    // Stores e at i where it is lighter than what stands there. The result: whether this or anything earlier fell,
+    // which goes in and comes out as the definition's third part (`cells`).
     #[tactic(auto, unfolding(crate::specs::Cells::lowered, crate::specs::Cells::less))]
     pub fn lower(&mut self, i: usize, e: Entry, fell: bool) -> bool
         requires { (i < length self.old.weight.now) × (i < length self.old.count.now) }

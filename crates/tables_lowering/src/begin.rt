@@ -9,7 +9,8 @@ use paper::limits::NEVER_MARK;
 use tables_costs::entry::{Entry, row_of};
 use tables_costs::rooms::TablesMut;
 
-// The first m entries say that there is no route.
+// The first m entries say that there is no route. Two rooms here: tried over TablesMut, and what stands in a field after a part of it
+// is filled is not known.
 fn clear(weight: &mut [u32], count: &mut [u16], m: usize)
     requires { (m ≤ length weight.old) × (m ≤ length count.old) }
     ensures { cells weight.new count.new false ≡ cleared m (cells weight.old count.old false) }

@@ -82,7 +82,7 @@ fn visit_node(
     any
 }
 
-// All rows, from the first node on or from the last: whether an entry fell.
+// All rows, from the first node on or, where `back` says so, from the last, as the promise has it (`sweep`): whether an entry fell.
 pub fn sweep_all(
     net: &Network,
     tables: &mut TablesMut,

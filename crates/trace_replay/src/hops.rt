@@ -17,7 +17,7 @@ pub struct Reached {
     pub weight: u32,
 }
 
-// The link of node v with the number l.
+// The link of node v with the number l. This search and the next differ in what they look for, so one function over both would be no plainer.
 fn link_of(net: &Network, v: usize, l: u32) -> Option<usize>
     requires { v < nodes net.now }
     ensures first { First (numbered net.now v l) (links net.now) result }
