@@ -1,15 +1,16 @@
 -- What the proofs of entering, passing and reaching cite: one law for each function, over plain variables. Assumes nothing.
 use Prim.Native.Nat.{ℕ, ◌+◌, ◌*◌, ◌<◌}
 use mathlib.Core.Path.{◌≡◌, refl, sym, ◌∙◌}
-use mathlib.Core.Bool.{Bool, true, false, cond, ◌&&◌}
+use mathlib.Core.Bool.{Bool, true, false, true≢false, cond, ◌&&◌}
 use mathlib.Core.List.{List}
 use native.Mathlib.Omega.{arith}
 use lib.Dec.{eqb, leb}
 use lib.ListN.{get_or, get_or-replicate}
+use Rattle.std.specs.Prelude.{Option, Some, None, is_some}
 use Rattle.paper.proofs.Places.{place_lt}
 use Rattle.network.specs.Network.{links, funs, places, from, node, kind, x_of, y_of, fee, place_in}
 use Rattle.network.specs.Arranged.{Arranged}
-use Rattle.network.specs.Next.{suits, Next}
+use Rattle.network.specs.Next.{suits, First}
 use Rattle.tables_costs.specs.Costs.{far, lower_to, blank}
 use Rattle.tables_sweeps.specs.Row.{onward, onwards, steps, closing, closings, landing, landings, inside, tunnels}
 use Rattle.tables_sweeps.proofs.Loops.{upto_none}
@@ -29,9 +30,10 @@ module _ (g W C : List ℕ) (v x : ℕ) where
   passed exits ends a a' e f h = rw (← e, ← f) h
 
   -- no function wraps there
-  pub no_tunnels : (r : ℕ) (a : List ℕ) → Arranged g → Next (suits g v 1 x) (funs g) 0 r → r ≡ funs g → a ≡ tunnels g W C v x a
+  pub no_tunnels : (r : Option ℕ) (a : List ℕ) → Arranged g → First (suits g v 1 x) (funs g) r → is_some r ≡ false → a ≡ tunnels g W C v x a
   unfolding tunnels inside steps onwards onward closings closing landings landing
-  no_tunnels r a known s e = sym ((rw (no_wraps, no_exits, no_ends)) ∙ no_landings)
+  no_tunnels (Some j) a known s e = absurd (true≢false e)
+  no_tunnels None a known s e = sym ((rw (no_wraps, no_exits, no_ends)) ∙ no_landings)
     where
       no_wraps : steps g v 1 x (blank 1024) ≡ blank 1024
       no_wraps = upto_none _ (funs g) (blank 1024) (λ j h. not_served g v 1 x j (blank 1024) (s.none_before j (omega arith) (omega arith)))

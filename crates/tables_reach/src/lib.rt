@@ -34,7 +34,7 @@ fn pass(net: &Network, tables: &Tables, at: Place, a: &mut [u64])
     requires { Within net.now at × Roomy (places net.now) tables.now.weight.now tables.now.count.now × (places net.now ≤ length a.old) }
     ensures { a.new ≡ tunnels net.now tables.now.weight.now tables.now.count.now at.node at.protocol a.old }
 {
-    if net.next_fun(0, at.node, Kind::Wrap.code() as usize, at.protocol) == net.funs() {
+    if net.first_fun(at.node, Kind::Wrap, at.protocol).is_none() {
         return;
     }
     let mut exits = [FAR; 1024];

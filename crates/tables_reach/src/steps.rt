@@ -41,7 +41,7 @@ pub fn step_all(net: &Network, at: Place, kind: Kind, a: &mut [u64])
     ensures { a.new ≡ steps net.now at.node (code (named kind)) at.protocol a.old }
 {
     for j in net.funs_of(at.node) {
-        if net.is_for(j, kind.code() as usize, at.protocol) {
+        if net.serves(j, kind, at.protocol) {
             step_links(net, at.node, j, a);
         }
     }

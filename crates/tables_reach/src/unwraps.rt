@@ -14,7 +14,7 @@ fn close(net: &Network, j: usize, x: usize, exits: &[u64], ends: &mut [u64])
     requires { (j < funs net.now) × (places net.now ≤ length exits.now) × (nodes net.now ≤ length ends.old) }
     ensures { ends.new ≡ closing net.now x exits.now j ends.old }
 {
-    if !net.is_for(j, Kind::Unwrap.code() as usize, x) {
+    if !net.serves(j, Kind::Unwrap, x) {
         return;
     }
     let exit = Place {
