@@ -43,8 +43,7 @@ fn lands_new(net: &Network, news: &News, x: usize, i: usize) -> bool
         node: net.link_to(i),
         protocol: x,
     };
-    let unwrap = Kind::Unwrap.code() as usize;
-    is_new(net, news, there) && net.next_fun(0, net.link_from(i), unwrap, x) < net.funs()
+    is_new(net, news, there) && net.first_fun(net.link_from(i), Kind::Unwrap, x).is_some()
 }
 
 // Whether one may by any link.
@@ -65,7 +64,7 @@ pub fn is_settled(net: &Network, news: &News, at: Place) -> bool
     if news_near(net, news, at.node) {
         return false;
     }
-    if net.next_fun(0, at.node, Kind::Wrap.code() as usize, at.protocol) == net.funs() {
+    if net.first_fun(at.node, Kind::Wrap, at.protocol).is_none() {
         return true;
     }
     !news_far(net, news, at.protocol)
