@@ -19,10 +19,10 @@ use Rattle.laws.proofs.Before.{and_left, and_right}
 use Rattle.network_records.specs.Columns.{kind_of_code}
 use Rattle.network.specs.Network.{links, funs, number, from, to, toll, node, kind, x_of, y_of, fee, hop_in}
 use Rattle.network.specs.Arranged.{Arranged}
-use Rattle.network.specs.Next.{leaves, stands, suits, Stretch, Next}
+use Rattle.network.specs.Next.{leaves, stands, suits, Stretch, Next, First}
 use Rattle.network.proofs.Steps.{Found, found, step_at, kind_is}
 use Rattle.trace_replay.specs.Keys.{key_of}
-use Rattle.trace_replay.specs.Hops.{First, numbered, known}
+use Rattle.trace_replay.specs.Hops.{numbered, known}
 use Rattle.trace_replay.proofs.Entries.{kind_back}
 
 and_false : (a b : Bool) → a ≡ false → a && b ≡ false

@@ -4,8 +4,9 @@ ghost use Rattle.paper.specs.Net.{code};
 ghost use Rattle.network_records.specs.Kinds.{named};
 ghost use Rattle.network.specs.Network.{nodes, links, funs, hop_in};
 ghost use Rattle.network.specs.Arranged.{Arranged};
+ghost use Rattle.network.specs.Next.{First};
 ghost use Rattle.trace_replay.specs.Keys.{key_of};
-ghost use Rattle.trace_replay.specs.Hops.{First, numbered, known, hopped};
+ghost use Rattle.trace_replay.specs.Hops.{numbered, known, hopped};
 
 use network::Network;
 use network_records::kind::Kind;
@@ -36,9 +37,8 @@ fn fun_of(net: &Network, v: usize, kind: Kind, x: usize, y: usize) -> Option<usi
     requires { v < nodes net.now }
     ensures { First (known net.now v (code (named kind)) x y) (funs net.now) result }
 {
-    let k = kind.code() as usize;
     for j in net.funs_of(v) {
-        if net.is_for(j, k, x) && net.fun_y(j) == y {
+        if net.serves(j, kind, x) && net.fun_y(j) == y {
             return Some(j);
         }
     }
@@ -49,14 +49,9 @@ pub fn hop(net: &Network, key: [u16; 4], node: usize) -> Option<Reached>
     requires { node < nodes net.now }
     ensures { hopped result ≡ hop_in net.now (key_of key) node }
 {
-    let i = link_of(net, node, u32::from(key[0]))?;
-    let j = fun_of(
-        net,
-        node,
-        Kind::from(key[1]),
-        usize::from(key[2]),
-        usize::from(key[3]),
-    )?;
+    let [link, kind, x, y] = key;
+    let i = link_of(net, node, u32::from(link))?;
+    let j = fun_of(net, node, Kind::from(kind), usize::from(x), usize::from(y))?;
     Some(Reached {
         node: net.link_to(i),
         weight: net.fun_weight(j) + net.link_weight(i),

@@ -34,11 +34,12 @@ impl Packet {
         requires { Here net.now self }
         ensures { result ≡ after net.now (key_of key) self }
     {
+        let [_, kind, _, _] = key;
         match hop(net, key, self.node) {
             None => self,
             Some(reached) => Packet {
                 node: reached.node,
-                height: height_after(Kind::from(key[1]), self.height),
+                height: height_after(Kind::from(kind), self.height),
                 spent: self.spent + u64::from(reached.weight),
             },
         }
