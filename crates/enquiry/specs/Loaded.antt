@@ -15,7 +15,7 @@ pub record Holds (file g : List ℕ) : Type 0 where
   pub accepts : judge file ≡ accepted (net (nodes g) (protocols g) links funs)
   pub leads : hop_in g ≡ hop (net (nodes g) (protocols g) links funs)
 
--- the file is refused at a line, or its network is in memory
-abbrev pub Loaded : List ℕ → Result (List ℕ) Refusal → Type 0
-Loaded file (Ok g) = Holds file g
-Loaded file (Err r) = judge file ≡ refused (number_of r.fault) r.line
+-- the file is refused at a line, or g is its network
+abbrev pub Loaded : (file : List ℕ) → Result (Unit {0}) Refusal → (g : List ℕ) → Type 0
+Loaded file (Ok x) g = Holds file g
+Loaded file (Err r) g = judge file ≡ refused (number_of r.fault) r.line

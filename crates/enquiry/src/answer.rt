@@ -32,7 +32,8 @@ fn enough(size: usize, weights: usize, counts: usize, choices: usize) -> bool
     entries <= weights && entries <= counts && 8 * entries <= choices
 }
 
-// The five rooms stand apart, as they are lent from C: of a struct that holds them, one cannot be read while another is lent.
+// The outcome of an enquiry, and all five rooms. They stand apart, as C lends them: tried as a struct of references, and what lies behind
+// one of its fields could not be read while another was lent.
 pub fn answer(
     net: &Network,
     enquiry: Enquiry,

@@ -5,6 +5,7 @@ ghost use Rattle.paper.specs.Outcome.{outcome_of, rooms, Routed};
 
 use crate::answer::answer;
 use crate::load::load;
+use network::Network;
 use network::size::ROOM;
 use paper::outcome::Outcome;
 use paper::place::{Enquiry, Place};
@@ -28,10 +29,6 @@ pub fn route(
     ensures { Routed file.now s a d b (rooms weight.old count.old choice.old step.old text.old) (outcome_of result) (rooms weight.new count.new choice.new step.new text.new) }
 {
     let mut room = [0u32; ROOM];
-    let net = match load(file, &mut room) {
-        Ok(net) => net,
-        Err(refusal) => return Outcome::from(refusal),
-    };
     let enquiry = Enquiry {
         start: Place {
             node: s as usize,
@@ -42,5 +39,11 @@ pub fn route(
             protocol: b as usize,
         },
     };
-    Outcome::from(answer(&net, enquiry, weight, count, choice, step, text))
+    match load(file, &mut room) {
+        Ok(()) => {
+            let net = Network::new(&room);
+            Outcome::from(answer(&net, enquiry, weight, count, choice, step, text))
+        }
+        Err(refusal) => Outcome::from(refusal),
+    }
 }

@@ -1,8 +1,7 @@
 // The normal writer: a network file in, its normal file out, for every file and every room.
 ghost use Rattle.std.specs.Prelude.{◌≡◌, ◌≤◌, length};
 ghost use Rattle.paper.specs.File.{judge};
-ghost use Rattle.paper.specs.Answers.{handed_out};
-ghost use Rattle.paper.specs.Outcome.{outcome, outcome_of, told, normally};
+ghost use Rattle.paper.specs.Outcome.{outcome, told, normally};
 ghost use Rattle.network_records.specs.Columns.{link_room, fun_room};
 ghost use Rattle.file_normal.specs.Answer.{answered};
 
@@ -32,26 +31,13 @@ fn normal_in(
     Ok(Some(length))
 }
 
-// The outcome of an accepted file.
-fn accepted(length: Option<usize>) -> Outcome
-    ensures { outcome_of result ≡ handed_out 0 0 length }
-{
-    Outcome {
-        number: if length.is_some() { 0 } else { 11 },
-        line: 0,
-        weight: 0,
-        steps: 0,
-        length: length.unwrap_or(0),
-    }
-}
-
 pub fn normal_file(file: &[u8], text: &mut [u8]) -> Outcome
     ensures { told (outcome result.number result.line result.weight result.steps result.length) text.new ≡ normally (judge file.now) text.old }
 {
     let mut links = [0u32; LINK_ROOM];
     let mut funs = [0u32; FUN_ROOM];
     match normal_in(file, &mut links, &mut funs, text) {
-        Ok(length) => accepted(length),
+        Ok(length) => Outcome::handed_out(0, 0, length),
         Err(refusal) => Outcome::from(refusal),
     }
 }

@@ -80,9 +80,9 @@ fn put_network(w: &mut Writer, z: Size, links: &[u32], funs: &[u32])
 // The normal file of the network, from the room's first byte on; its length is answered.
 pub fn write_normal(z: Size, links: &[u32], funs: &[u32], text: &mut [u8]) -> usize
     requires valid { Valid z links.now funs.now }
-    requires funs_in_bounds { length (normal (net_of z links.now funs.now)) ≤ length text.old }
+    requires fits { length (normal (net_of z links.now funs.now)) ≤ length text.old }
     ensures value { result ≡ length (normal (net_of z links.now funs.now)) }
-    ensures text_after { text.new ≡ laid text.old 0 (normal (net_of z links.now funs.now)) }
+    ensures laid_in { text.new ≡ laid text.old 0 (normal (net_of z links.now funs.now)) }
 {
     let mut w = Writer::new(text);
     put_network(&mut w, z, links, funs);

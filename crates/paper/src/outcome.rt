@@ -1,6 +1,7 @@
 // What an enquiry comes to, and the outcome as the C host gets it.
 ghost use Rattle.std.specs.Prelude.{◌≡◌};
-ghost use Rattle.paper.specs.Answers.{Tells, TellsRefusal, denial_number};
+ghost use Rattle.paper.specs.Outcome.{outcome_of};
+ghost use Rattle.paper.specs.Answers.{Tells, TellsRefusal, denial_number, handed_out};
 
 use crate::fault::Refusal;
 
@@ -47,6 +48,21 @@ impl Denial {
     }
 }
 
+impl Outcome {
+    // 0 with the text's length where the text fits its room, else 11.
+    pub fn handed_out(weight: u32, steps: u32, length: Option<usize>) -> Self
+        ensures { outcome_of result ≡ handed_out weight steps length }
+    {
+        Outcome {
+            number: if length.is_some() { 0 } else { 11 },
+            line: 0,
+            weight,
+            steps,
+            length: length.unwrap_or(0),
+        }
+    }
+}
+
 // A refusal has number and line, all else is 0.
 impl From<Refusal> for Outcome {
     ghost from_gives = { TellsRefusal };
@@ -67,13 +83,7 @@ impl From<Result<Found, Denial>> for Outcome {
 
     fn from(answer: Result<Found, Denial>) -> Self {
         match answer {
-            Ok(found) => Outcome {
-                number: if found.length.is_some() { 0 } else { 11 },
-                line: 0,
-                weight: found.weight,
-                steps: found.steps,
-                length: found.length.unwrap_or(0),
-            },
+            Ok(found) => Outcome::handed_out(found.weight, found.steps, found.length),
             Err(denial) => Outcome {
                 number: denial.number(),
                 line: 0,

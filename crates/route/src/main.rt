@@ -11,6 +11,7 @@ use enquiry::travel::travel;
 use file_cursor::Cursor;
 use network::Network;
 use network::size::ROOM;
+use paper::fault::Fault;
 use paper::limits::MOST_BYTES;
 use paper::outcome::{Denial, Found, Outcome};
 use paper::place::Enquiry;
@@ -65,7 +66,7 @@ fn respond(
     ensures { ReadyIn served.now.net.now served.now.tables choice.new }
 {
     let Some(enquiry) = read_ask(line) else {
-        return write_reply(rt, b"refused", 2, number);
+        return write_reply(rt, b"refused", Fault::Misshapen.number(), number);
     };
     let o = Outcome::from(enquire(served, enquiry, choice, step, text));
     if o.number != 0 {
@@ -86,7 +87,7 @@ fn serve(rt: &impl Print, served: &Served, choice: &mut [u16], input: &[u8]) -> 
     while cursor.at < input.len() {
         number += 1;
         let Some(line) = cursor.line() else {
-            return write_reply(rt, b"refused", 2, number);
+            return write_reply(rt, b"refused", Fault::Misshapen.number(), number);
         };
         respond(rt, served, line.text, number, choice, &mut step, &mut text)?;
         cursor.move_to(line.next);
@@ -122,7 +123,7 @@ fn listen(rt: &(impl Input + Print), net: &Network) -> io::Result<()> {
     let (k, ended) = read_full(&mut rt.reader(), &mut input);
     ended?;
     if MOST_BYTES < k {
-        return write_reply(rt, b"badask", 1, 0);
+        return write_reply(rt, b"badask", Fault::TooLong.number(), 0);
     }
     tabulate(rt, net, &input[..k])
 }
@@ -131,7 +132,7 @@ fn listen(rt: &(impl Input + Print), net: &Network) -> io::Result<()> {
 fn judge(rt: &(impl Input + Print), file: &[u8]) -> io::Result<()> {
     let mut room = [0u32; ROOM];
     match load(file, &mut room) {
-        Ok(net) => listen(rt, &net),
+        Ok(()) => listen(rt, &Network::new(&room)),
         Err(refusal) => write_reply(rt, b"badnet", refusal.fault.number(), refusal.line),
     }
 }

@@ -56,7 +56,7 @@ fn put_trace(w: &mut Writer, net: &Network, steps: &Steps, weight: u32)
 // The whole trace into a room of its own, and how many bytes it has.
 pub fn write_trace(net: &Network, steps: &Steps, weight: u32, text: &mut [u8]) -> usize
     requires route { IsRoute net.now steps.now }
-    requires weight_in_bounds { length (trace (hop_in net.now) steps.now.start.node steps.now.start.protocol (keys steps.now) weight) ≤ length text.old }
+    requires fits { length (trace (hop_in net.now) steps.now.start.node steps.now.start.protocol (keys steps.now) weight) ≤ length text.old }
     ensures { Put text.old text.new 0 result (trace (hop_in net.now) steps.now.start.node steps.now.start.protocol (keys steps.now) weight) }
 {
     let mut w = Writer::new(text);
