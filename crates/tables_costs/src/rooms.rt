@@ -1,5 +1,5 @@
 // The weight and count rooms: an entry for every pair of places.
-ghost use Rattle.std.specs.Prelude.{◌≡◌, ◌<◌, ◌≤◌, eqb, length, get_or};
+ghost use Rattle.std.specs.Prelude.{◌≡◌, ◌<◌, ◌≤◌, eqb, length, get_or, set};
 ghost use Rattle.paper.specs.Limits.{never_mark};
 ghost use Rattle.tables_costs.specs.Cells.{cells, lowered};
 ghost use Rattle.tables_costs.specs.Costs.{far, cost_at};
@@ -62,6 +62,16 @@ impl TablesMut<'_> {
         }
     }
 
+    // Stores e at i.
+    pub fn put(&mut self, i: usize, e: Entry)
+        requires { (i < length self.old.weight.now) × (i < length self.old.count.now) }
+        ensures same_rooms { SameRooms self.old self.new }
+        ensures put { (self.new.weight.now ≡ set self.old.weight.now i e.weight) × (self.new.count.now ≡ set self.old.count.now i e.count) }
+    {
+        self.weight[i] = e.weight;
+        self.count[i] = e.count;
+    }
+
     // Stores e at i where it is lighter than what stands there. The result: whether this or anything earlier fell,
     // which goes in and comes out as the definition's third part (`cells`).
     #[tactic(auto, unfolding(crate::specs::Cells::lowered, crate::specs::Cells::less))]
@@ -71,8 +81,7 @@ impl TablesMut<'_> {
         ensures lowered { cells self.new.weight.now self.new.count.now result ≡ lowered i e.weight e.count (cells self.old.weight.now self.old.count.now fell) }
     {
         if e < self.to_read().read(i) {
-            self.weight[i] = e.weight;
-            self.count[i] = e.count;
+            self.put(i, e);
             return true;
         }
         fell
