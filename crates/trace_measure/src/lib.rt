@@ -33,9 +33,9 @@ fn dots_after(key: [u16; 4], dots: usize) -> usize
     requires { (lost (key_of key) ≤ dots) × (dots ≤ most_dots) }
     ensures { result + lost (key_of key) ≡ dots + gained (key_of key) }
 {
-    let x = width(u32::from(key[2]));
-    let y = width(u32::from(key[3]));
-    match Kind::from(key[1]) {
+    let [_, kind, x, y] = key;
+    let (x, y) = (width(u32::from(x)), width(u32::from(y)));
+    match Kind::from(kind) {
         Kind::Conv => dots + y - x,
         Kind::Wrap => dots + 1 + y,
         Kind::Unwrap => dots - 1 - y,
@@ -47,8 +47,9 @@ fn line_size(key: [u16; 4], node: usize, dots: usize) -> usize
     requires { (node < 256) × (dots ≤ most_dots) }
     ensures { (result ≡ line_size (key_of key) node dots) × (result ≤ most_line) }
 {
-    let a = width(u32::from(key[0])) + word_size(Kind::from(key[1]));
-    let b = width(u32::from(key[2])) + width(u32::from(key[3]));
+    let [link, kind, x, y] = key;
+    let a = width(u32::from(link)) + word_size(Kind::from(kind));
+    let b = width(u32::from(x)) + width(u32::from(y));
     11 + a + b + width(node as u32) + dots
 }
 
