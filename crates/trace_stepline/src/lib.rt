@@ -50,11 +50,12 @@ fn put_key(w: &mut Writer, key: [u16; 4])
     requires { Holds w.old (key_text (key_of key)) }
     ensures { Wrote w.old w.new (key_text (key_of key)) }
 {
+    let [link, kind, x, y] = key;
     w.word(b"step");
-    w.field(u32::from(key[0]));
-    w.kind(Kind::from(key[1]));
-    w.field(u32::from(key[2]));
-    w.field(u32::from(key[3]));
+    w.field(u32::from(link));
+    w.kind(Kind::from(kind));
+    w.field(u32::from(x));
+    w.field(u32::from(y));
 }
 
 #[tactic(auto, using(crate::proofs::Pieces::end_size))]
