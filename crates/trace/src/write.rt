@@ -37,7 +37,8 @@ fn put_steps(w: &mut Writer, net: &Network, steps: &Steps)
     let mut packet = Packet::begin(steps.start);
     for i in 0..steps.count {
         let key = steps.key(i);
-        stack.step_in(Kind::from(key[1]), key[3] as u8);
+        let [_, kind, _, y] = key;
+        stack.step_in(Kind::from(kind), y as u8);
         packet = packet.stepped(net, key);
         put_step(w, key, packet, &stack.cells);
     }

@@ -7,8 +7,8 @@ use Rattle.trace.proofs.write.put_steps.Goals as goal
 pub loop-i-init : goal.loop-i-init
 loop-i-init c = set_out c.requires.route c.args.w.now _ _ c.holding-stack.ensures c.begin-packet.ensures
 
-pub overflow_cast-key : goal.overflow_cast-key
-overflow_cast-key c =
+pub overflow_cast-y : goal.overflow_cast-y
+overflow_cast-y c =
     let top : slice_index_or c.key-key.result 3 0 < 256 = rw c.key-key.ensures (turn_top c.requires.route c.loop-i.i c.loop-i-test.true c.loop-i.invariant) in
     omega arith
 
