@@ -39,7 +39,7 @@ fn compose(tables: &Tables, base: usize, size: usize, c: u64, y: &mut [u64])
 #[tactic(auto, unfolding(tables_sweeps::specs::Row::onward))]
 fn go_on(tables: &Tables, size: usize, a: &[u64], r: usize, y: &mut [u64])
     requires spreading { Spreading size tables.now.weight.now tables.now.count.now a.now y.old }
-    requires r_lt_size { r < size }
+    requires within { r < size }
     ensures { y.new ≡ onward tables.now.weight.now tables.now.count.now size a.now r y.old }
 {
     let c = a[r];
@@ -73,7 +73,7 @@ fn is_idle(tables: &Tables, news: &News, i: usize, k: u64, r: usize) -> bool
 #[tactic(auto, unfolding(tables_sweeps::specs::Row::going, tables_sweeps::specs::Row::onward))]
 fn gain(tables: &Tables, size: usize, news: &News, at: usize, a: &[u64], r: usize, y: &mut [u64])
     requires going { Going size tables.now.weight.now tables.now.count.now news.now.stamps.now at a.now y.old }
-    requires r_lt_size { r < size }
+    requires within { r < size }
     ensures { y.new ≡ going tables.now.weight.now tables.now.count.now size news.now.stamps.now news.now.since (at * size) a.now r y.old }
 {
     let c = a[r];
