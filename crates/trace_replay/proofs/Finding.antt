@@ -1,6 +1,6 @@
--- The first record that passes one test and a second, found by walking over those that pass the first; and the hop that two such records make, or none.
+-- The first record that passes one test and a second, found among those that pass the first; and the hop that two such records make, or none.
 -- Assumes nothing.
-use Prim.Native.Nat.{ℕ, ◌+◌, ◌-◌, ◌<◌, ◌≤◌}
+use Prim.Native.Nat.{ℕ, ◌+◌, ◌<◌, ◌≤◌}
 use mathlib.Core.Path.{◌≡◌, refl, sym, ◌∙◌}
 use mathlib.Core.Bool.{Bool, true, false, ◌&&◌}
 use mathlib.Core.List.{List}
@@ -9,17 +9,15 @@ use native.Mathlib.Omega.{arith}
 use lib.Dec.{eqb}
 use native.Mathlib.Decide.{dec_lt}
 use lib.ListN.{get_or}
-use borrow.Author.Count.{below_more}
 use borrow.Author.Tests.{eqb-true, eq-eqb}
-use Rattle.std.specs.Prelude.{Some, None}
+use Rattle.std.specs.Prelude.{Some, None, MatchOption}
 use Rattle.std.specs.Prelude as std
-use Rattle.std.specs.declared.ops.Range.{Range}
 use Rattle.paper.specs.Net.{code, key}
 use Rattle.laws.proofs.Before.{and_left, and_right}
 use Rattle.network_records.specs.Columns.{kind_of_code}
 use Rattle.network.specs.Network.{links, funs, number, from, to, toll, node, kind, x_of, y_of, fee, hop_in}
 use Rattle.network.specs.Arranged.{Arranged}
-use Rattle.network.specs.Next.{leaves, stands, suits, Stretch, Next, First}
+use Rattle.network.specs.Next.{leaves, stands, suits, Stretch, First}
 use Rattle.network.proofs.Steps.{Found, found, step_at, kind_is}
 use Rattle.trace_replay.specs.Keys.{key_of}
 use Rattle.trace_replay.specs.Hops.{numbered, known}
@@ -31,58 +29,41 @@ and_false a b e = rw e
 not_both : {A : Type 0} (b : Bool) → b ≡ true → b ≡ false → A
 not_both b e f = let z : ◌≡◌ {A = ℕ} 0 1 = cc in absurd (omega arith)
 
--- ## The walk
+-- ## The first among those of a range
 
--- of n records those of which the test holds are those of a; p holds of none but some of them; a walk over a is at b, and p holds of none before it
-pub record Walk (test p : ℕ → Bool) (n : ℕ) (a b : Range ℕ) : Type 0 where
-  pub own : Stretch test n a.start a.end
-  pub only : (k : ℕ) → test k ≡ false → p k ≡ false
-  pub end : b.end ≡ a.end
-  pub begun : a.start ≤ b.start
-  pub none_before : (k : ℕ) → k < b.start → p k ≡ false
+-- of n records those from a to b pass the test; p holds of those of them of which q does
+module _ {test p : ℕ → Bool} (q : ℕ → Bool) {n a b : ℕ} (own : Stretch test n a b) (is : (k : ℕ) → p k ≡ (test k && q k)) where
+  none_till : (i : ℕ) → i ≤ b → ((k : ℕ) → a ≤ k → k < i → q k ≡ false) → (k : ℕ) → k < i → p k ≡ false
+  none_till i h f k l = go (dec_lt k a)
+    where
+      go : Dec (k < a) → p k ≡ false
+      go (yes m) = is k ∙ and_false (test k) (q k) (own.before k m)
+      go (no m) =
+          let e : q k ≡ false = f k (omega arith) l in
+          let t : test k ≡ true = own.inside k (omega arith) (omega arith) in
+          is k ∙ rw (t, e)
 
--- the walk at b yields i, and is at d then
-abbrev pub Yields : Range ℕ → ℕ → Range ℕ → Type 0
-Yields b i d = (d.end ≡ b.end) × ((0 < b.end - b.start) × (i ≡ b.start) × (d.start ≡ b.start + 1))
-
-module _ {test p : ℕ → Bool} {n : ℕ} {a : Range ℕ} where
-  pub walk_on : Stretch test n a.start a.end → ((k : ℕ) → test k ≡ false → p k ≡ false) → Walk test p n a a
-  walk_on own only = record { own = own; only = only; end = refl; begun = omega arith; none_before = λ k h. only k (own.before k h) }
-
-  module _ {b : Range ℕ} (so : Walk test p n a b) where
-    module _ {i : ℕ} {d : Range ℕ} (y : Yields b i d) where
-      pub own_here : (i < n) × (test i ≡ true)
-      own_here = (omega (arith, so.own.within, so.end, y.1), so.own.inside i (omega (arith, so.begun, y.1)) (omega (arith, so.end, y.1)))
-
-      pub here : p i ≡ true → (i < n) × Next p n 0 i
-      here e = (
-        own_here.0,
-        record { from_here = omega arith; at_most = omega (arith, own_here.0); none_before = λ k g h. so.none_before k (omega (arith, y.1)); holds = λ h. e },
+  -- what `find` says of a range, said of all records
+  pub first_of : (r : std.Option ℕ) → MatchOption r ((k : ℕ) → a ≤ k → k < b → q k ≡ false) (λ i. (a ≤ i) × (i < b) × (q i ≡ true) × ((k : ℕ) → a ≤ k → k < i → q k ≡ false)) → First p n r
+  first_of None f = record { from_here = omega arith; at_most = omega arith; none_before = λ k g h. go k h (dec_lt k b); holds = λ h. absurd (omega arith) }
+    where
+      go : (k : ℕ) → k < n → Dec (k < b) → p k ≡ false
+      go k h (yes m) = none_till b (omega arith) f k m
+      go k h (no m) = is k ∙ and_false (test k) (q k) (own.behind k (omega arith) h)
+  first_of (Some i) f =
+      let here : test i ≡ true = own.inside i f.0 f.1 in (
+        omega (arith, own.within, f.1),
+        record { from_here = omega arith; at_most = omega (arith, own.within, f.1); none_before = λ k g h. none_till i (omega (arith, f.1)) f.3 k h; holds = λ h. is i ∙ rw (here, f.2) },
       )
 
-      pub further : p i ≡ false → Walk test p n a d
-      further e =
-          record { own = so.own; only = so.only; end = omega (arith, so.end, y.0); begun = omega (arith, so.begun, y.1); none_before = rw y.1.2 (below_more _ _ so.none_before (rw y.1.1 at e)) }
+and_assoc : (a b c : Bool) → (a && b) && c ≡ a && (b && c)
+and_assoc true b c = refl
+and_assoc false b c = refl
 
-    pub nowhere : b.end - b.start ≡ 0 → Next p n 0 n
-    nowhere e = record { from_here = omega arith; at_most = omega arith; none_before = λ k g h. go k h (dec_lt k b.start); holds = λ h. absurd (omega arith) }
-      where
-        go : (k : ℕ) → k < n → Dec (k < b.start) → p k ≡ false
-        go k h (yes l) = so.none_before k l
-        go k h (no l) = so.only k (so.own.behind k (omega (arith, so.end)) h)
-
-module _ (g : List ℕ) (v : ℕ) {a : Range ℕ} where
-  pub to_link : (l : ℕ) → Stretch (leaves g v) (links g) a.start a.end → Walk (leaves g v) (numbered g v l) (links g) a a
-  to_link l own = walk_on own (λ k e. and_false (leaves g v k) (eqb (number g k) l) e)
-
-  pub to_fun : (c x y : ℕ) → Stretch (stands g v) (funs g) a.start a.end → Walk (stands g v) (known g v c x y) (funs g) a a
-  unfolding stands suits
-  to_fun c x y own = walk_on own (λ k e. rw e)
-
--- what is looked at in a function of the node
-pub looked_at : (g : List ℕ) (v c x y j : ℕ) → stands g v j ≡ true → known g v c x y j ≡ (eqb (kind g j) c && eqb (x_of g j) x) && eqb (y_of g j) y
+-- of a function of the node, its kind, x and y are looked at
+pub known_is : (g : List ℕ) (v c x y j : ℕ) → known g v c x y j ≡ (stands g v j && ((eqb (kind g j) c && eqb (x_of g j) x) && eqb (y_of g j) y))
 unfolding stands suits
-looked_at g v c x y j e = rw e
+known_is g v c x y j = and_assoc (eqb (node g j) v) (eqb (kind g j) c && eqb (x_of g j) x) (eqb (y_of g j) y)
 
 -- ## The hop
 

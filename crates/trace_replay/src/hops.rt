@@ -18,18 +18,13 @@ pub struct Reached {
     pub weight: u32,
 }
 
-// The link of node v with the number l. This search and the next differ in what they look for, so one function over both would be no plainer.
+// The link of node v with the number l.
 fn link_of(net: &Network, v: usize, l: u32) -> Option<usize>
     requires { v < nodes net.now }
     ensures first { First (numbered net.now v l) (links net.now) result }
     ensures arranged { Arranged net.now }
 {
-    for i in net.links_of(v) {
-        if net.link_number(i) == l {
-            return Some(i);
-        }
-    }
-    None
+    net.links_of(v).find(|&i| net.link_number(i) == l)
 }
 
 // The function of node v of this kind, for x and y.
@@ -37,12 +32,8 @@ fn fun_of(net: &Network, v: usize, kind: Kind, x: usize, y: usize) -> Option<usi
     requires { v < nodes net.now }
     ensures { First (known net.now v (code (named kind)) x y) (funs net.now) result }
 {
-    for j in net.funs_of(v) {
-        if net.serves(j, kind, x) && net.fun_y(j) == y {
-            return Some(j);
-        }
-    }
-    None
+    net.funs_of(v)
+        .find(|&j| net.serves(j, kind, x) && net.fun_y(j) == y)
 }
 
 pub fn hop(net: &Network, key: [u16; 4], node: usize) -> Option<Reached>
