@@ -24,7 +24,7 @@ impl<'a> Record<'a> {
     // The number of the place where its level begins.
     pub fn place(&self) -> usize
         requires { self.now.at < length self.now.choice.now }
-        ensures { result ≡ get_or self.now.choice.now self.now.at 0 }
+        ensures { (result ≡ get_or self.now.choice.now self.now.at 0) × (result < 65536) }
     {
         usize::from(self.choice[self.at])
     }
@@ -32,7 +32,7 @@ impl<'a> Record<'a> {
     // The protocol that its level hides.
     pub fn hidden(&self) -> usize
         requires { self.now.at + 1 < length self.now.choice.now }
-        ensures { result ≡ get_or self.now.choice.now (self.now.at + 1) 0 }
+        ensures { (result ≡ get_or self.now.choice.now (self.now.at + 1) 0) × (result < 65536) }
     {
         usize::from(self.choice[self.at + 1])
     }
@@ -71,7 +71,7 @@ impl<'a> Record<'a> {
 
 // Whether digit b of a word is set.
 #[tactic(auto, unfolding(crate::specs::Frames::bit))]
-fn has_bit(word: u16, b: u16) -> bool
+pub fn has_bit(word: u16, b: u16) -> bool
     requires { b < 16 }
     ensures { result ≡ bit word b }
 {
