@@ -29,9 +29,9 @@ not_both : (a b : Bool) → (a && b) ≡ false → a ≡ true → b ≡ true →
 not_both a b e f h = let z : ◌≡◌ {A = Bool} true false = rw (f, h) at e in absurd (let y : ◌≡◌ {A = ℕ} 0 1 = cc in omega arith)
 
 module _ (g W C : List ℕ) (E : List Exit) (x : ℕ) where
-  pub crossed_is : (i s t q row w k f : ℕ) → s ≡ places g → t ≡ to g i → q ≡ place_in g t x → row ≡ q * s → w ≡ toll g i → k ≡ cost w 1 → f ≡ finishing W C E row → k + f ≡ crossed g W C E x i
+  pub crossed_is : (i k : ℕ) → k ≡ finishing W C E (place_in g (to g i) x * places g) + cost (0 + toll g i) 1 → k ≡ crossed g W C E x i
   unfolding crossed
-  crossed_is i s t q row w k f es et eq er ew ek ef = rw (← es, ← et, ← eq, ← er, ← ew, ← ek, ← ef)
+  crossed_is i k e = omega (arith, e)
 
   -- ## A number for each node
 

@@ -1,12 +1,16 @@
 // Finishing from a place over one of the exits.
-ghost use Rattle.std.specs.Prelude.{◌≡◌, ◌+◌, ◌<◌, ◌≤◌, length};
+ghost use Rattle.std.specs.Prelude.{◌≡◌, ◌+◌, ◌*◌, ◌<◌, ◌≤◌, length};
+ghost use Rattle.network.specs.Network.{links, protocols, places, to, toll, place_in};
 ghost use Rattle.tables_costs.specs.Costs.{far};
-ghost use Rattle.unfold_exits.specs.Cost.{told_at};
+ghost use Rattle.unfold_exits.specs.Cost.{cost, told_at};
 ghost use Rattle.unfold_exits.specs.Lists.{Ranged, finishing};
 
 use crate::lists::Exit;
+use crate::solved::Solved;
 use crate::told::told_at;
-use tables_costs::cost::FAR;
+use paper::place::Place;
+use tables_costs::cost::{FAR, step_cost};
+use tables_costs::entry::row_of;
 use tables_costs::rooms::Tables;
 
 // From the place whose row of the tables begins at `row`, over this exit.
@@ -18,7 +22,7 @@ pub fn over_exit(tables: &Tables, row: usize, exit: &Exit) -> u64
     told_at(tables, row + exit.place) + exit.cost
 }
 
-// From the place whose row begins at `row`, over the best of the exits, which are of `size` places.
+// From the place whose row begins at `row`, over the best of the exits, which are of `size` places, of which only the contract speaks.
 pub fn finish(tables: &Tables, exits: &[Exit], size: usize, row: usize) -> u64
     requires { Ranged size exits.now × (row + size ≤ length tables.now.weight.now) × (row + size ≤ length tables.now.count.now) }
     ensures { (result ≡ finishing tables.now.weight.now tables.now.count.now exits.now row) × (result ≤ far) }
@@ -28,4 +32,19 @@ pub fn finish(tables: &Tables, exits: &[Exit], size: usize, row: usize) -> u64
         best = best.min(over_exit(tables, row, exit));
     }
     best
+}
+
+// Over link i, where protocol x is on top behind it and `weight` is spent before it, and then over the best of the exits.
+pub fn over_link(solved: &Solved, exits: &[Exit], i: usize, x: usize, weight: u32) -> u64
+    requires { (i < links solved.now.net.now) × (x < protocols solved.now.net.now) × (weight ≤ 1000000000) × Ranged (places solved.now.net.now) exits.now }
+    ensures { result ≡ finishing solved.now.tables.weight.now solved.now.tables.count.now exits.now (place_in solved.now.net.now (to solved.now.net.now i) x * places solved.now.net.now) + cost (weight + toll solved.now.net.now i) 1 }
+{
+    let net = solved.net;
+    let to = Place {
+        node: net.link_to(i),
+        protocol: x,
+    };
+    let size = net.places();
+    let row = row_of(size, net.number_of(to));
+    finish(&solved.tables, exits, size, row) + step_cost(weight + net.link_weight(i), 1)
 }

@@ -25,6 +25,7 @@ fn list_place(tables: &Tables, size: usize, level: &Record, left: u64, e: usize,
     requires { Reading size tables.now.weight.now tables.now.count.now level.now.choice.now level.now.at × (left ≡ left_at level.now.choice.now level.now.at) × Gathered (LeavesBy size tables.now.weight.now tables.now.count.now level.now.choice.now level.now.at) e exits.old }
     ensures { Gathered (LeavesBy size tables.now.weight.now tables.now.count.now level.now.choice.now level.now.at) (e + 1) exits.new }
 {
+    // The last word has bits past the last place.
     if size <= e {
         return;
     }

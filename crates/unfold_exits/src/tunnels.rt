@@ -2,30 +2,14 @@
 ghost use Rattle.std.specs.Prelude.{◌≡◌, ◌+◌, ◌<◌, get_or};
 ghost use Rattle.network.specs.Network.{links, funs, places};
 ghost use Rattle.unfold_exits.specs.Lists.{Gathered, Ranged};
-ghost use Rattle.unfold_exits.specs.Exits.{Crossing, crossed, Landed, Closing, Unwrapping, Unwraps};
+ghost use Rattle.unfold_exits.specs.Exits.{Crossing, Landed, Closing, Unwrapping, Unwraps};
 
-use crate::finish::finish;
+use crate::finish::over_link;
 use crate::lists::{Exit, Exits};
 use crate::solved::Solved;
 use network_records::kind::Kind;
 use paper::place::Place;
 use tables_costs::cost::{FAR, step_cost};
-use tables_costs::entry::row_of;
-
-// Over link i, and then to the level's end.
-fn cross(solved: &Solved, exits: &[Exit], x: usize, i: usize) -> u64
-    requires { (i < links solved.now.net.now) × Crossing solved.now.net.now exits.now x }
-    ensures { result ≡ crossed solved.now.net.now solved.now.tables.weight.now solved.now.tables.count.now exits.now x i }
-{
-    let net = solved.net;
-    let to = Place {
-        node: net.link_to(i),
-        protocol: x,
-    };
-    let size = net.places();
-    let row = row_of(size, net.number_of(to));
-    step_cost(net.link_weight(i), 1) + finish(&solved.tables, exits, size, row)
-}
 
 // Link i, for the node that it leaves.
 fn land(solved: &Solved, exits: &[Exit], x: usize, i: usize, lands: &mut [u64])
@@ -33,7 +17,7 @@ fn land(solved: &Solved, exits: &[Exit], x: usize, i: usize, lands: &mut [u64])
     ensures { Landed solved.now.net.now solved.now.tables.weight.now solved.now.tables.count.now exits.now x (i + 1) lands.new }
 {
     let from = solved.net.link_from(i);
-    lands[from] = cross(solved, exits, x, i).min(lands[from]);
+    lands[from] = over_link(solved, exits, i, x, 0).min(lands[from]);
 }
 
 // Over the best link of each node: every link is crossed once, however many functions unwrap there.
@@ -52,7 +36,7 @@ fn list_fun(solved: &Solved, lands: &[u64], x: usize, j: usize, outs: &mut Exits
     ensures { Gathered (Unwrapping solved.now.net.now x (λ u. get_or lands.now u 0)) (j + 1) outs.new }
 {
     let net = solved.net;
-    if !net.is_for(j, Kind::Unwrap.code() as usize, x) {
+    if !net.serves(j, Kind::Unwrap, x) {
         return;
     }
     let at = Place {

@@ -1,5 +1,0 @@
-use Rattle.unfold_exits.proofs.Landings.{crossed_is}
-use Rattle.unfold_exits.proofs.tunnels.cross.Goals as goal
-
-pub returns : goal.returns
-returns c = crossed_is _ _ _ _ _ c.args.i _ _ _ _ _ _ _ c.places-size.ensures.0 c.link_to.ensures.0 c.number_of.ensures.0 c.row_of-row.ensures.0 c.link_weight.ensures.0 c.step_cost.ensures.0 c.finish.ensures.0
