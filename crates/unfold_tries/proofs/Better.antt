@@ -1,5 +1,5 @@
 -- The better of what was found and what is tried: laws of the order of keys, and of scans. Assumes nothing.
-use Prim.Native.Nat.{ℕ, ◌+◌, ◌<◌, ◌≤◌}
+use Prim.Native.Nat.{ℕ, ◌+◌, ◌-◌, ◌<◌, ◌≤◌}
 use mathlib.Core.Path.{◌≡◌, refl, sym, ap, ◌∙◌}
 use mathlib.Core.Bool.{Bool, true, false, ◌&&◌, ◌||◌}
 use mathlib.Core.List.{List, [], ◌∷◌}
@@ -11,6 +11,7 @@ use borrow.Author.Tests.{ltb-true, ltb-false, eqb-true, eqb-false}
 use Rattle.paper.specs.Net.{before}
 use Rattle.paper.specs.Route.{Lex}
 use Rattle.laws.proofs.Order.{lex_refl, lex_trans}
+use Rattle.std.specs.declared.ops.Range.{Range}
 use Rattle.network.specs.Next.{Stretch}
 use Rattle.unfold_tries.specs.declared.trial.Step.{Step}
 use Rattle.unfold_tries.specs.Trial.{Better, Any}
@@ -93,13 +94,46 @@ module _ (P : ℕ → Step → Type 0) where
   any_past : {a b : Step} {m r : ℕ} → Better (Any P m) a b → m ≤ r → ((k : ℕ) (s : Step) → m ≤ k → k < r → P k s → ⊥) → Better (Any P r) a b
   any_past x h none = any_to h none (λ s q. absurd q) x (better_none (λ s q. q))
 
-  pub any_more : {a b c : Step} (m : ℕ) → Better (Any P m) a b → Better (P m) b c → Better (Any P (m + 1)) a c
+  any_more : {a b c : Step} (m : ℕ) → Better (Any P m) a b → Better (P m) b c → Better (Any P (m + 1)) a c
   any_more m x y = any_to (omega arith) (λ k s l h q. let e : k ≡ m = omega arith in rw e at q) (λ s q. record { at = m; below = omega arith; is = q }) x y
 
   -- those before and behind the node's bring nothing
   module _ {test : ℕ → Bool} {n lo hi : ℕ} (none : (k : ℕ) (s : Step) → test k ≡ false → P k s → ⊥) (own : Stretch test n lo hi) where
-    pub scan_start : {a : Step} → Better (Any P lo) a a
+    scan_start : {a : Step} → Better (Any P lo) a a
     scan_start = any_past {m = 0} (better_none (λ s q. omega (arith, q.below))) (omega arith) (λ k s l h. none k s (own.before k h))
 
-    pub scan_end : {a b : Step} (i : ℕ) → hi ≤ i → i ≤ n → Better (Any P i) a b → Better (Any P n) a b
+    scan_end : {a b : Step} (i : ℕ) → hi ≤ i → i ≤ n → Better (Any P i) a b → Better (Any P n) a b
     scan_end i h m x = any_past x m (λ k s l g. none k s (own.behind k (omega arith) g))
+
+-- of n records those of which the test holds are those of a; a walk over a is at b, and s is the better of s₀ and what the records before it bring
+pub record Walk (test : ℕ → Bool) (P : ℕ → Step → Type 0) (n : ℕ) (a b : Range ℕ) (s₀ s : Step) : Type 0 where
+  pub own : Stretch test n a.start a.end
+  pub end : b.end ≡ a.end
+  pub begun : a.start ≤ b.start
+  pub until : b.start ≤ b.end
+  pub done : Better (Any P b.start) s₀ s
+
+-- the walk at b yields i, and is at d then
+abbrev pub Yields : Range ℕ → ℕ → Range ℕ → Type 0
+Yields b i d = (d.end ≡ b.end) × ((0 < b.end - b.start) × (i ≡ b.start) × (d.start ≡ b.start + 1))
+
+module _ {test : ℕ → Bool} {P : ℕ → Step → Type 0} {n : ℕ} {a : Range ℕ} (none : (k : ℕ) (s : Step) → test k ≡ false → P k s → ⊥) where
+  pub walk_on : {s : Step} → Stretch test n a.start a.end → Walk test P n a a s s
+  walk_on own = record { own = own; end = refl; begun = omega arith; until = own.order; done = scan_start P none own }
+
+  pub walk_end : {b : Range ℕ} {s₀ s : Step} → Walk test P n a b s₀ s → b.end - b.start ≡ 0 → Better (Any P n) s₀ s
+  walk_end {b} w e = scan_end P none w.own b.start (omega (arith, w.end)) (omega (arith, w.end, w.until, w.own.within)) w.done
+
+module _ {test : ℕ → Bool} {P : ℕ → Step → Type 0} {n : ℕ} {a b : Range ℕ} {s₀ s : Step} (w : Walk test P n a b s₀ s) {i : ℕ} {d : Range ℕ} (y : Yields b i d) where
+  pub own_here : (i < n) × (test i ≡ true)
+  own_here = (omega (arith, w.own.within, w.end, y.1), w.own.inside i (omega (arith, w.begun, y.1)) (omega (arith, w.end, y.1)))
+
+  pub further : {t : Step} → Better (P i) s t → Walk test P n a d s₀ t
+  further x =
+      record {
+        own = w.own;
+        end = omega (arith, w.end, y.0);
+        begun = omega (arith, w.begun, y.1);
+        until = omega (arith, y.0, y.1);
+        done = rw y.1.2 (any_more P b.start w.done (rw y.1.1 at x));
+      }

@@ -18,11 +18,10 @@ use Rattle.unfold_tries.specs.declared.trial.Use.{Use}
 use Rattle.unfold_tries.specs.Trial.{Better, OverLink, step_over, way_over}
 use Rattle.unfold_tries.proofs.Better.{before_lex, not_before_lex, better_same, better_none, better_new}
 
--- the sum that is tested, from its parts
-pub way_is : (g W C : List ℕ) (E : List Exit) (f : Use) (i s t q row a k c : ℕ) → s ≡ places g → t ≡ to g i → q ≡ place_in g t f.onto → row ≡ q * s → a ≡ toll g i → k ≡ cost (f.weight + a) 1
-    → c ≡ finishing W C E row → c + k ≡ way_over g W C E f i
+-- the sum that is tested
+pub way_is : (g W C : List ℕ) (E : List Exit) (f : Use) (i k : ℕ) → k ≡ finishing W C E (place_in g (to g i) f.onto * places g) + cost (f.weight + toll g i) 1 → k ≡ way_over g W C E f i
 unfolding way_over
-way_is g W C E f i s t q row a k c es et eq er ea ek ec = rw (ec, er, eq, et, es, ek, ea)
+way_is g W C E f i k e = e
 
 -- a link that the walk yields leaves the node, and no other does
 pub leaves_from : (g : List ℕ) (v i : ℕ) → leaves g v i ≡ true → from g i ≡ v

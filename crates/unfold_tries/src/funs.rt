@@ -77,7 +77,7 @@ fn try_fun(
 {
     let net = solved.net;
     let x = sought_by(kind, at.protocol, hidden);
-    if !net.is_for(j, kind.code() as usize, x) {
+    if !net.serves(j, kind, x) {
         return best;
     }
     if top_of(net, kind, j) != at.protocol {
@@ -99,8 +99,7 @@ pub fn try_funs(
     ensures { Better (Any (ByFun solved.now.net.now solved.now.tables.weight.now solved.now.tables.count.now exits.now at kind hidden) (funs solved.now.net.now)) best result }
 {
     let mut found = best;
-    let own = solved.net.funs_of(at.node);
-    for j in own.start..own.end {
+    for j in solved.net.funs_of(at.node) {
         found = try_fun(solved, exits, at, kind, hidden, j, found);
     }
     found

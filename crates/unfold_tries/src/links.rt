@@ -2,17 +2,14 @@
 ghost use Rattle.std.specs.Prelude.{◌≡◌, [], ◌∷◌, ◌<◌};
 ghost use Rattle.paper.specs.Net.{code};
 ghost use Rattle.network_records.specs.Kinds.{named};
-ghost use Rattle.network.specs.Network.{links, places, number, from};
-ghost use Rattle.unfold_exits.specs.Lists.{Ranged};
-ghost use Rattle.unfold_tries.specs.Trial.{Better, Any, OverLink, way_over, Usable, Trying};
+ghost use Rattle.network.specs.Network.{links, number, from};
+ghost use Rattle.unfold_tries.specs.Trial.{Better, Any, OverLink, Usable, Trying};
 
 use crate::trial::{Spot, Step, Use};
 use network::Network;
 use paper::key::{key_before, step_key};
-use paper::place::Place;
 use tables_costs::cost::step_cost;
-use tables_costs::entry::row_of;
-use unfold_exits::finish::finish;
+use unfold_exits::finish::over_link;
 use unfold_exits::lists::Exit;
 use unfold_exits::solved::Solved;
 
@@ -22,22 +19,6 @@ fn key_over(net: &Network, i: usize, f: Use) -> [u16; 4]
     ensures { result ≡ number net.now i ∷ code (named f.kind) ∷ f.x ∷ f.y ∷ [] }
 {
     step_key(net.link_number(i) as u16, f.kind.code() as u16, f.x, f.y)
-}
-
-// The cost of the step over link i, and of finishing from where it leads.
-fn way_over(solved: &Solved, exits: &[Exit], f: Use, i: usize) -> u64
-    requires { (i < links solved.now.net.now) × Ranged (places solved.now.net.now) exits.now × Usable solved.now.net.now f }
-    ensures { result ≡ way_over solved.now.net.now solved.now.tables.weight.now solved.now.tables.count.now exits.now f i }
-{
-    let net = solved.net;
-    let to = Place {
-        node: net.link_to(i),
-        protocol: f.onto,
-    };
-    let size = net.places();
-    let row = row_of(size, net.number_of(to));
-    let spent = step_cost(f.weight + net.link_weight(i), 1);
-    finish(&solved.tables, exits, size, row) + spent
 }
 
 // The better of `best` and the step over link i of the node, if that passes.
@@ -51,7 +32,7 @@ fn try_link(solved: &Solved, exits: &[Exit], at: Spot, f: Use, i: usize, best: S
     if !key_before(key, least) {
         return best;
     }
-    let way = way_over(solved, exits, f, i);
+    let way = over_link(solved, exits, i, f.onto, f.weight);
     if way != step_cost(at.weight, at.left) {
         return best;
     }
@@ -70,8 +51,7 @@ pub fn try_links(solved: &Solved, exits: &[Exit], at: Spot, f: Use, best: Step) 
     ensures { Better (Any (OverLink solved.now.net.now solved.now.tables.weight.now solved.now.tables.count.now exits.now at f) (links solved.now.net.now)) best result }
 {
     let mut found = best;
-    let own = solved.net.links_of(at.node);
-    for i in own.start..own.end {
+    for i in solved.net.links_of(at.node) {
         found = try_link(solved, exits, at, f, i, found);
     }
     found

@@ -1,18 +1,15 @@
-use native.Mathlib.Omega.{arith}
-use Rattle.unfold_tries.proofs.Better.{scan_start, any_more, scan_end}
+use Rattle.unfold_tries.proofs.Better.{walk_on, walk_end, own_here, further}
 use Rattle.unfold_tries.proofs.Serves.{stands_at, fun_elsewhere}
 use Rattle.unfold_tries.proofs.funs.try_funs.Goals as goal
 
 pub loop-j-init : goal.loop-j-init
-loop-j-init c = let own = c.funs_of-own.ensures.stretch in (omega (arith, own.order, own.within), scan_start _ (fun_elsewhere _ _ _ _ _ _ _) c.funs_of-own.ensures.stretch)
+loop-j-init c = walk_on (fun_elsewhere _ _ _ _ _ _ _) (rw (← c.into_iter-j-iterator.ensures.into_iter_gives) at c.funs_of-j-items.ensures.stretch)
 
 pub try_fun-found-requires : goal.try_fun-found-requires
-try_fun-found-requires c =
-    let own = c.funs_of-own.ensures.stretch in
-    (omega (arith, own.within), stands_at _ _ _ (own.inside c.loop-j.j (omega arith) (omega arith)), c.requires)
+try_fun-found-requires c = let h = own_here c.loop-j.invariant c.in-Some.ensures.steps in (h.0, stands_at _ _ _ h.1, c.requires)
 
 pub loop-j-preserved : goal.loop-j-preserved
-loop-j-preserved c = let own = c.funs_of-own.ensures.stretch in (omega (arith, own.within), any_more _ c.loop-j.j c.loop-j.invariant.1 c.try_fun-found.ensures)
+loop-j-preserved c = further c.loop-j.invariant c.in-Some.ensures.steps c.try_fun-found.ensures
 
 pub returns : goal.returns
-returns c = scan_end _ (fun_elsewhere _ _ _ _ _ _ _) c.funs_of-own.ensures.stretch c.loop-j.j (omega arith) c.loop-j.invariant.0 c.loop-j.invariant.1
+returns c = walk_end (fun_elsewhere _ _ _ _ _ _ _) c.loop-j.invariant c.in-None.ensures.steps.1.0
