@@ -6,7 +6,10 @@ use mathlib.Core.List.{List, []}
 use native.Mathlib.Omega.{arith}
 use borrow.Author.Tests.{eq-eqb}
 use Rattle.network.specs.Network.{places, funs, node, kind, x_of}
-use Rattle.network.specs.Next.{suits, Next}
+use Rattle.std.specs.Prelude.{Some, None}
+use Rattle.std.specs.Prelude as std
+use Rattle.std.specs.Option.{is_some}
+use Rattle.network.specs.Next.{suits, First}
 use Rattle.unfold_exits.specs.Cost.{Square}
 use Rattle.unfold_exits.specs.Lists.{Lists, Ranged}
 use Rattle.unfold_exits.specs.declared.lists.Exit.{Exit}
@@ -33,13 +36,14 @@ module _ {g L : List ℕ} {o : ℕ} {at : Spot} (k : Looking g L o at) where
     looked_crossing r = record { protocol = k.protocol; ranged = rw e at r }
 
 -- where nothing wraps, there is nothing to try
-pub no_wraps : (g : List ℕ) {W C L : List ℕ} {o : ℕ} (at : Spot) (r : ℕ) {b : Step} → Next (suits g at.node 1 at.protocol) (funs g) 0 r → r ≡ funs g → ByTunnel g W C L o at b b
+pub no_wraps : (g : List ℕ) {W C L : List ℕ} {o : ℕ} (at : Spot) (r : std.Option ℕ) {b : Step} → First (suits g at.node 1 at.protocol) (funs g) r → is_some r ≡ false → ByTunnel g W C L o at b b
 unfolding suits top_of
-no_wraps g at r next e = record { O = []; outward = λ j h s. absurd (none j h s); better = better_none (λ s q. none q.at q.below q.is.serving) }
+no_wraps g at (Some i) first e = absurd (let z : ◌≡◌ {A = ℕ} 0 1 = cc in omega arith)
+no_wraps g at None next e = record { O = []; outward = λ j h s. absurd (none j h s); better = better_none (λ s q. none q.at q.below q.is.serving) }
   where
     none : (j : ℕ) → j < funs g → Serves g at.node 1 at.protocol 0 j → ⊥
     none j h y =
         let yes : suits g at.node 1 at.protocol j ≡ true = rw (eq-eqb (node g j) at.node y.at_node, eq-eqb (kind g j) 1 y.of_kind, eq-eqb (x_of g j) at.protocol y.on_top) in
-        let not : suits g at.node 1 at.protocol j ≡ false = next.none_before j (omega arith) (omega (arith, e)) in
+        let not : suits g at.node 1 at.protocol j ≡ false = next.none_before j (omega arith) h in
         let z : ◌≡◌ {A = ℕ} 0 1 = cc (yes, not) in
         omega arith

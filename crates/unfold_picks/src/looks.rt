@@ -60,7 +60,7 @@ pub fn look_tunnel(solved: &Solved, level: &Record, at: Spot, best: Step, lists:
     ensures { ByTunnel solved.now.net.now solved.now.tables.weight.now solved.now.tables.count.now level.now.choice.now level.now.at at best result }
 {
     let net = solved.net;
-    if net.next_fun(0, at.node, Kind::Wrap.code() as usize, at.protocol) == net.funs() {
+    if net.first_fun(at.node, Kind::Wrap, at.protocol).is_none() {
         return best;
     }
     list_outward(solved, level, at, lists);

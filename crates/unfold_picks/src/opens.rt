@@ -75,7 +75,7 @@ fn write_record(
     );
 }
 
-// Writes the record of the tunnel that a wrap from `at`, in level k, opens at `to`: record k + 1.
+// Writes the record of the tunnel that a wrap from `at`, in level k, opens at `to`: record k + 1. The route ends at `end`, of which only the contract speaks.
 pub fn open(
     solved: &Solved,
     choice: &mut [u16],

@@ -11,7 +11,7 @@ use unfold_exits::solved::Solved;
 use unfold_frames::Record;
 use unfold_tries::trial::{Spot, Step};
 
-// No step: its key comes behind every other.
+// No step, told by a key that comes behind every other: so one comparison serves whether a step was found before or not.
 fn nothing() -> Step
     ensures { result ≡ nothing }
 {

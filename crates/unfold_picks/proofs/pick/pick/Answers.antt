@@ -24,4 +24,4 @@ look_level-requires c = look_below c.args.k c.args.solved.now.arranged c.require
 
 pub returns : goal.returns
 returns c =
-    pick_inner c.args.k c.args.solved.now.arranged c.requires.1 _ _ _ c.record_length-length.ensures.0 refl c.requires.0 c.if-k-eq0.false c.hidden.ensures (rw c.nothing.ensures at c.look_level-on.ensures) c.look_tunnel-into.ensures c.look_level.ensures
+    pick_inner c.args.k c.args.solved.now.arranged c.requires.1 _ _ _ c.record_length-length.ensures.0 refl c.requires.0 c.if-k-eq0.false c.hidden.ensures.0 (rw c.nothing.ensures at c.look_level-on.ensures) c.look_tunnel-into.ensures c.look_level.ensures
