@@ -45,7 +45,7 @@ fn hand_out(
     ensures ends_in { EndsIn net.now enquiry.start enquiry.end step.old text.old (handed_out result.weight result.steps result.length) step.new text.new }
     ensures choice_after { choice.new ≡ cleared net.now choice.old }
 {
-    unfold(net, tables, choice, step, enquiry.start, enquiry.end);
+    unfold(net, tables, choice, step, enquiry);
     let steps = Steps {
         start: enquiry.start,
         room: step,

@@ -7,7 +7,7 @@ ghost use Rattle.unfold.specs.Unfolded.{weighs_in, counts_in, Unfolds, Route, Bo
 use crate::course::Course;
 use crate::levels::level;
 use network::Network;
-use paper::place::Place;
+use paper::place::Enquiry;
 use tables_costs::entry::{Entry, row_of};
 use unfold_exits::solved::Solved;
 use unfold_frames::{add_mark, begin, words_for};
@@ -15,30 +15,30 @@ use unfold_picks::looks::Lists;
 use unfold_tries::trial::Spot;
 
 // What the tables tell of the enquiry.
-fn entry_of(solved: &Solved, start: Place, end: Place) -> Entry
-    requires { Within solved.now.net.now start × Within solved.now.net.now end }
-    ensures { (result.weight ≡ weighs_in solved.now.net.now solved.now.tables.weight.now solved.now.tables.count.now start end) × (result.count ≡ counts_in solved.now.net.now solved.now.tables.weight.now solved.now.tables.count.now start end) }
+fn entry_of(solved: &Solved, enquiry: Enquiry) -> Entry
+    requires { Within solved.now.net.now enquiry.start × Within solved.now.net.now enquiry.end }
+    ensures { (result.weight ≡ weighs_in solved.now.net.now solved.now.tables.weight.now solved.now.tables.count.now enquiry.start enquiry.end) × (result.count ≡ counts_in solved.now.net.now solved.now.tables.weight.now solved.now.tables.count.now enquiry.start enquiry.end) }
 {
     let net = solved.net;
-    let row = row_of(net.places(), net.number_of(start));
-    solved.tables.read(row + net.number_of(end))
+    let row = row_of(net.places(), net.number_of(enquiry.start));
+    solved.tables.read(row + net.number_of(enquiry.end))
 }
 
-// Writes record 0: it begins at `start` with the entry's weight and steps left, and its one exit is `end`.
-fn write_bottom(net: &Network, choice: &mut [u16], start: Place, end: Place, left: Entry)
-    requires { Within net.now start × Within net.now end × (5 + words_for (places net.now) ≤ length choice.old) }
-    ensures { Bottomed net.now start end choice.new left.weight left.count }
+// Writes record 0: it begins where the enquiry starts, with the entry's weight and steps left, and its one exit is the enquiry's end.
+fn write_bottom(net: &Network, choice: &mut [u16], enquiry: Enquiry, left: Entry)
+    requires { Within net.now enquiry.start × Within net.now enquiry.end × (5 + words_for (places net.now) ≤ length choice.old) }
+    ensures { Bottomed net.now enquiry.start enquiry.end choice.new left.weight left.count }
 {
     begin(
         choice,
         0,
         words_for(net.places()),
-        net.number_of(start) as u16,
+        net.number_of(enquiry.start) as u16,
         0,
         left.weight,
         left.count,
     );
-    add_mark(choice, 0, net.number_of(end));
+    add_mark(choice, 0, net.number_of(enquiry.end));
 }
 
 // Writes the steps of the best route.
@@ -46,23 +46,22 @@ pub fn write_route(
     solved: &Solved,
     choice: &mut [u16],
     steps: &mut [u16],
-    start: Place,
-    end: Place,
+    enquiry: Enquiry,
     lists: &mut Lists,
 )
-    requires { Unfolds solved.now.net.now solved.now.tables.weight.now solved.now.tables.count.now start end choice.old steps.old }
-    ensures { Route solved.now.net.now solved.now.tables.weight.now solved.now.tables.count.now start end steps.old steps.new }
+    requires { Unfolds solved.now.net.now solved.now.tables.weight.now solved.now.tables.count.now enquiry.start enquiry.end choice.old steps.old }
+    ensures { Route solved.now.net.now solved.now.tables.weight.now solved.now.tables.count.now enquiry.start enquiry.end steps.old steps.new }
 {
-    let entry = entry_of(solved, start, end);
-    write_bottom(solved.net, choice, start, end, entry);
+    let entry = entry_of(solved, enquiry);
+    write_bottom(solved.net, choice, enquiry, entry);
     let course = Course {
-        end,
+        end: enquiry.end,
         total: entry.count,
         level: 0,
     };
     let at = Spot {
-        node: start.node,
-        protocol: start.protocol,
+        node: enquiry.start.node,
+        protocol: enquiry.start.protocol,
         weight: entry.weight,
         left: entry.count,
     };

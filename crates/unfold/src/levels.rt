@@ -65,7 +65,7 @@ pub fn tunnel(
     lists: &mut Lists,
 ) -> Spot
     requires asks { Asks solved.now.net.now solved.now.tables.weight.now solved.now.tables.count.now course choice.old steps.old at }
-    requires key_value { (get_or s.key 1 0 ≡ 1) × Taken solved.now.net.now solved.now.tables.weight.now solved.now.tables.count.now choice.old course.level at s }
+    requires is_wrap { (get_or s.key 1 0 ≡ 1) × Taken solved.now.net.now solved.now.tables.weight.now solved.now.tables.count.now choice.old course.level at s }
     ensures { TunnelEnsures solved.now.net.now solved.now.tables.weight.now solved.now.tables.count.now course choice.old choice.new steps.old steps.new at result }
 {
     put(steps, usize::from(course.total - at.left), s.key);

@@ -5,7 +5,7 @@ ghost use Rattle.unfold.specs.Unfolded.{Unfolds, Unfolded};
 
 use crate::bottom::write_route;
 use network::Network;
-use paper::place::Place;
+use paper::place::Enquiry;
 use tables_costs::rooms::Tables;
 use unfold_exits::lists::Exits;
 use unfold_exits::solved::Solved;
@@ -16,17 +16,16 @@ mod bottom;
 mod course;
 mod levels;
 
-// Writes the steps of the best route of the enquiry from `start` to `end`; the first 8 N² entries of the choice room serve it, and hold zeros afterwards.
+// Writes the steps of the enquiry's best route; the first 8 N² entries of the choice room serve it, and hold zeros afterwards.
 pub fn unfold(
     net: &Network,
     tables: &Tables,
     choice: &mut [u16],
     steps: &mut [u16],
-    start: Place,
-    end: Place,
+    enquiry: Enquiry,
 )
-    requires { Unfolds net.now tables.now.weight.now tables.now.count.now start end choice.old steps.old }
-    ensures { Unfolded net.now tables.now.weight.now tables.now.count.now start end choice.old choice.new steps.old steps.new }
+    requires { Unfolds net.now tables.now.weight.now tables.now.count.now enquiry.start enquiry.end choice.old steps.old }
+    ensures { Unfolded net.now tables.now.weight.now tables.now.count.now enquiry.start enquiry.end choice.old choice.new steps.old steps.new }
 {
     let size = net.places();
     let room = 8 * (size * size);
@@ -38,6 +37,6 @@ pub fn unfold(
         exits: Exits::new(),
         outs: Exits::new(),
     };
-    write_route(&solved, &mut choice[0..room], steps, start, end, &mut lists);
+    write_route(&solved, &mut choice[0..room], steps, enquiry, &mut lists);
     clear(choice, 0, room);
 }

@@ -43,19 +43,19 @@ level-returns t c =
 pub tunnel-put-requires : goal.tunnel-put-requires
 tunnel-put-requires t c =
     let p = c.requires in
-    let y = taken_as p.key_value.1 wrap p.key_value.0 in
+    let y = taken_as p.is_wrap.1 wrap p.is_wrap.0 in
     omega (arith, p.asks.steps, p.asks.fits, c.from.ensures, picked_falls c.args.solved.now.arranged p.asks y.picked)
 
 pub tunnel-open-requires : goal.tunnel-open-requires
 tunnel-open-requires t c =
     let p = c.requires in
-    tunnel_opens c.args.solved.now.arranged p.asks (taken_as p.key_value.1 wrap p.key_value.0)
+    tunnel_opens c.args.solved.now.arranged p.asks (taken_as p.is_wrap.1 wrap p.is_wrap.0)
 
 pub tunnel-level-requires : goal.tunnel-level-requires
 tunnel-level-requires t c =
     let p = c.requires in
     let o = c.args.solved.now.arranged in
-    let y = taken_as p.key_value.1 wrap p.key_value.0 in
+    let y = taken_as p.is_wrap.1 wrap p.is_wrap.0 in
     let w = c.«open» in (
       omega (arith, c.decreases, picked_falls o p.asks y.picked),
       rw (add-one c.args.course.level) (tunnel_calls o p.asks y w.ensures.0 w.ensures.1 w.auto.choice c.put.auto.steps),
@@ -64,6 +64,6 @@ tunnel-level-requires t c =
 pub tunnel-returns : goal.tunnel-returns
 tunnel-returns t c =
     let p = c.requires in
-    let y = taken_as p.key_value.1 wrap p.key_value.0 in
+    let y = taken_as p.is_wrap.1 wrap p.is_wrap.0 in
     let w = c.«open» in
     tunnel_done c.args.solved.now.arranged p.asks y w.ensures.0 w.ensures.1 (rw c.from.ensures at c.put.ensures) (rw (add-one c.args.course.level) at c.level.ensures)
