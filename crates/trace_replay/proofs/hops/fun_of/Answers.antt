@@ -13,4 +13,4 @@ returns c =
     let g = c.args.net.now in
     let found : ℕ → Bool = λ j. (eqb (kind g j) (code (named c.args.kind)) && eqb (x_of g j) c.args.x) && eqb (y_of g j) c.args.y in
     first_of found c.funs_of.ensures.stretch (λ j. known_is g c.args.v (code (named c.args.kind)) c.args.x c.args.y j) c.find.result
-    (first_from_Range _ _ _ _ (λ j. found j ≡ true) (λ j. found j ≡ false) c.find.ensures.ran (λ x q k. grind (arith, tests)) (λ x q k. (search rules, grind (arith, tests))))
+    (first_from_Range _ _ _ _ (λ j. found j ≡ true) (λ j. found j ≡ false) c.find.ensures.ran (λ x q k. search (rules, tests)) (λ x q k. (search rules, grind (arith, tests))))
