@@ -1,21 +1,13 @@
 -- The first line of what is left of a file: it ends at the first LF, or is cut. Assumes nothing.
-use Rattle.std.proofs.Common.{◌≡◌, ◌∙◌, refl, sym, ap, Bool, true, false, List, [], ◌∷◌, length, get_or, take, drop, ℕ, zero, suc, ◌+◌, ◌-◌, ◌<◌, ◌≤◌, eqb, ltb, Option, Some, None, position, arith}
-use Rattle.std.specs.List.{position_or_len, slice_range}
+use Rattle.std.proofs.Common.{◌≡◌, ◌∙◌, sym, ap, true, false, List, [], ◌∷◌, length, get_or, take, drop, ℕ, zero, suc, ◌+◌, ◌-◌, ◌<◌, ◌≤◌, eqb, Some, None, position, arith}
+use Rattle.std.specs.List.{slice_range}
 use Rattle.std.proofs.lemmas.List.Quantifiers.{position-Some}
-use Rattle.std.proofs.lemmas.List.Sums.{fails_before_first}
-use borrow.Author.Tests.{ltb-false}
 use Rattle.std.proofs.Math.Seq.{take-length}
 use Rattle.std.proofs.lemmas.List.{length-take-le, drop-drop}
 use Rattle.std.proofs.Math.ListN.{length-drop}
+use Rattle.file_fields.proofs.Cutting.{none_found}
 use Rattle.paper.specs.Text.{ended, cut, lines, lines_on}
 use Rattle.file_cursor.specs.Line.{Whole, Cut}
-
-none_found : (c : ℕ) (l : List ℕ) → None ≡ position (λ b. eqb b c) l → (k : ℕ) → k < length l → eqb (get_or l k 0) c ≡ false
-none_found c l e k h = fails_before_first (λ b. eqb b c) l k 0 (go (ltb (position_or_len (λ b. eqb b c) l) (length l)) refl)
-  where
-    go : (t : Bool) → ltb (position_or_len (λ b. eqb b c) l) (length l) ≡ t → k < position_or_len (λ b. eqb b c) l
-    go true t = let n : ◌≡◌ {A = Option ℕ} None (Some (position_or_len (λ b. eqb b c) l)) = e ∙ rw t in absurd (cc)
-    go false t = omega (arith, ltb-false _ _ t)
 
 ends_at : (l : List ℕ) (e : ℕ) → e < length l → eqb (get_or l e 0) 10 ≡ true → ((k : ℕ) → k < e → eqb (get_or l k 0) 10 ≡ false) → lines l ≡ ended (take e l) ∷ lines (drop (suc e) l)
 unfolding lines lines_on

@@ -1,23 +1,13 @@
 -- A line's fields are its parts between tabs. Assumes nothing.
-use Rattle.std.proofs.Common.{◌≡◌, ◌∙◌, refl, ap, Bool, true, false, cond, ◌&&◌, List, [], ◌∷◌, length, ℕ, ◌<◌, eqb, Option, Some, None, Bor, arith}
+use Rattle.std.proofs.Common.{◌≡◌, ◌∙◌, refl, ap, Bool, false, ◌&&◌, List, [], ◌∷◌, length, ℕ, ◌<◌, eqb, Option, Some, None, Bor, arith}
 use lib.Pointwise.{pointwise}
-use Rattle.std.specs.List.{slice_split, onto_first, slice_get}
+use Rattle.std.specs.List.{slice_get}
 use Rattle.std.specs.Option.{unwrap_or, option_copied, option_eq}
 use Rattle.std.proofs.lemmas.Option.{unwrap_or-slice_get}
-use Rattle.paper.specs.Text.{fields, fields_on, number, spelled, same}
+use Rattle.paper.specs.Text.{fields, number, spelled, same}
 use Rattle.paper.specs.File.{field}
 use Rattle.digits.specs.Read.{told}
 use Rattle.file_fields.specs.Fields.{field_of}
-
-pub fields_split : (l : List ℕ) → slice_split (λ b. eqb b 9) l ≡ fields l
-unfolding fields fields_on
-fields_split [] = refl
-fields_split (b ∷ bs) = rw (fields_split bs) (go (eqb b 9) (fields bs))
-  where
-    go : (t : Bool) (fs : List (List ℕ)) → cond t ([] ∷ fs) (onto_first b fs) ≡ fields_on t b fs
-    go true fs = refl
-    go false [] = refl
-    go false (f ∷ fs) = refl
 
 field_is_get : (l : List ℕ) (k : ℕ) → unwrap_or (slice_get (fields l) k) [] ≡ field_of l k
 unfolding field

@@ -1,11 +1,11 @@
 // The fields of a line, which has no LF, by their number; the word is field 0.
 #![tactic(auto)]
 
-ghost use Rattle.std.specs.Prelude.{◌≡◌, ◌==◌, ◌+◌, ◌≤◌, ◌<◌, eqb, length, position, slice_get};
-ghost use Rattle.std.specs.Option.{option_copied};
+ghost use Rattle.std.specs.Prelude.{◌≡◌, ◌∷◌, ◌==◌, ◌+◌, ◌≤◌, ◌<◌, eqb, length, drop, position, slice_get};
+ghost use Rattle.std.specs.Option.{option_copied, option_map};
 ghost use Rattle.paper.specs.Text.{number, fields, same};
 ghost use Rattle.digits.specs.Read.{told};
-ghost use Rattle.file_fields.specs.Fields.{field_of, numbers};
+ghost use Rattle.file_fields.specs.Fields.{field_of, left, numbers};
 
 use digits::read::read_number;
 
@@ -16,18 +16,46 @@ pub fn find(bytes: &[u8], c: u8) -> Option<usize>
     bytes.iter().position(|byte| *byte == c)
 }
 
+// The first field, and the line behind its tab, if it has one.
+fn cut(line: &[u8]) -> (&[u8], Option<&[u8]>)
+    ensures { fields line.now ≡ result.0.now ∷ left result.1 }
+{
+    match find(line, b'\t') {
+        Some(end) => (&line[..end], Some(&line[end + 1..])),
+        None => (line, None),
+    }
+}
+
+// The line from field k on, if it has so many.
+fn from_field(line: &[u8], k: usize) -> Option<&[u8]>
+    ensures { left result ≡ drop k (fields line.now) }
+{
+    let mut rest = Some(line);
+    for _ in 0..k {
+        rest = cut(rest?).1;
+    }
+    rest
+}
+
 // Field k, if the line has so many.
 fn field(line: &[u8], k: usize) -> Option<&[u8]>
     ensures { option_copied result ≡ slice_get (fields line.now) k }
 {
-    line.split(|byte| *byte == b'\t').nth(k)
+    let rest = from_field(line, k)?;
+    Some(cut(rest).0)
 }
 
-// Whether the line has just k fields.
+// Whether the line has just k fields: none does without one, and what stands behind the k-th need not be read.
 pub fn has_fields(line: &[u8], k: usize) -> bool
     ensures { result ≡ eqb (length (fields line.now)) k }
 {
-    line.split(|byte| *byte == b'\t').count() == k
+    if k == 0 {
+        return false;
+    }
+    match from_field(line, k - 1) {
+        Some(last) => cut(last).1.is_none(),
+        None => false,
+    }
 }
 
 // The number in field k.
@@ -38,16 +66,26 @@ pub fn number_at(line: &[u8], k: usize) -> Option<u32>
     read_number(field(line, k)?)
 }
 
+// The numbers in field k and on, into all of out, if each of them is one: the line is cut once, however many are asked for.
+pub fn gather(line: &[u8], k: usize, out: &mut [u32]) -> Option<()>
+    ensures { option_map (λ _. out.new) result ≡ numbers line.now k (length out.old) }
+{
+    let mut rest = from_field(line, k);
+    for i in 0..out.len() {
+        let (part, behind) = cut(rest?);
+        out[i] = read_number(part)?;
+        rest = behind;
+    }
+    Some(())
+}
+
 // The numbers in field k and on, as many as asked for, if each of them is one.
-#[tactic(auto, using(crate::proofs::Gathering::gathered))]
 pub fn numbers_at<const K: usize>(line: &[u8], k: usize) -> Option<[u32; K]>
     requires { k + K ≤ 6 }
     ensures { result ≡ numbers line.now k K }
 {
     let mut out = [0; K];
-    for i in 0..K {
-        out[i] = number_at(line, k + i)?;
-    }
+    gather(line, k, &mut out)?;
     Some(out)
 }
 

@@ -1,12 +1,9 @@
--- The fields are the parts between tabs. Assumes nothing.
-use Rattle.std.proofs.Common.{rules, tests, eqb}
-use Rattle.std.proofs.lemmas.Iterator.Consumers.{nth_from_yields_List}
-use Rattle.std.proofs.lemmas.Iterator.Splits.{YieldsList-from_slice_split}
-use Rattle.file_fields.proofs.Parts.{fields_split}
+-- The field is the first of those that are left. Assumes nothing.
+use Rattle.file_fields.proofs.Cutting.{field_there, no_field}
 use Rattle.file_fields.proofs.field.Goals as goal
 
+pub returns-in_err-rest : goal.returns-in_err-rest
+returns-in_err-rest c = rw c.from_residual.ensures (no_field _ _ _ c.from_field.ensures c.in_err-rest.was)
+
 pub returns : goal.returns
-returns c =
-    let s = c.split.ensures in
-    rw (← fields_split c.args.line.now)
-    (nth_from_yields_List _ _ _ c.nth.ensures.ran (YieldsList-from_slice_split _ (λ b. eqb b 9) _ s.rest s.done s.closure (λ x b q k. search (rules, tests))))
+returns c = field_there _ _ _ c.from_field.ensures _ _ _ c.in_ok-rest.was c.cut.ensures
