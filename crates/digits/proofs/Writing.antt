@@ -15,7 +15,7 @@ use Rattle.digits.specs.Digits.{digit_byte, last_digits}
 use Rattle.digits.specs.Write.{Put, Left, Holds, Wrote, Leaves}
 use Rattle.digits.proofs.Digits.{digits_first, decimal_digits}
 
-then : {d e f : List ℕ} {i j k : ℕ} {s t : List ℕ} → Put d e i j s → Put e f j k t → Put d f i k (s ++ t)
+pub then : {d e f : List ℕ} {i j k : ℕ} {s t : List ℕ} → Put d e i j s → Put e f j k t → Put d f i k (s ++ t)
 then {d} {e} {f} {i} {j} {k} {s} {t} p q =
     record { next = omega (arith, p.next, q.next, length-append s t); text = laid_seq d e f s t i j p.text p.next q.text }
 
@@ -24,10 +24,10 @@ none_put d i = record { next = sym (add-zero i); text = sym (laid_none d i) }
 
 -- ## Piece by piece
 
-whole_left : (d : List ℕ) (i : ℕ) (s : List ℕ) → Left d i s d i s
+pub whole_left : (d : List ℕ) (i : ℕ) (s : List ℕ) → Left d i s d i s
 whole_left d i s = record { ends = refl; same = refl; size = refl }
 
-less_left : {d e f : List ℕ} {i j k : ℕ} {s u t : List ℕ} → Left d i s e j (u ++ t) → Put e f j k u → Left d i s f k t
+pub less_left : {d e f : List ℕ} {i j k : ℕ} {s u t : List ℕ} → Left d i s e j (u ++ t) → Put e f j k u → Left d i s f k t
 less_left {e} {f} {j} {k} {u} {t} l p =
     record {
       ends = omega (arith, l.ends, p.next, length-append u t);
@@ -36,10 +36,10 @@ less_left {e} {f} {j} {k} {u} {t} l p =
     }
 
 -- there is room for the next piece u
-left_room : {d e : List ℕ} {i j : ℕ} {s : List ℕ} (u t : List ℕ) → i + length s ≤ length d → Left d i s e j (u ++ t) → j + length u ≤ length e
+pub left_room : {d e : List ℕ} {i j : ℕ} {s : List ℕ} (u t : List ℕ) → i + length s ≤ length d → Left d i s e j (u ++ t) → j + length u ≤ length e
 left_room u t h l = omega (arith, l.ends, l.size, length-append u t)
 
-none_left : {d e : List ℕ} {i j : ℕ} {s : List ℕ} → Left d i s e j [] → Put d e i j s
+pub none_left : {d e : List ℕ} {i j : ℕ} {s : List ℕ} → Left d i s e j [] → Put d e i j s
 none_left {e} {j} l = record { next = omega (arith, l.ends); text = sym (laid_none e j) ∙ l.same }
 
 -- ## The same of a writer

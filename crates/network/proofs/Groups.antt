@@ -91,16 +91,24 @@ module _ {home start : ℕ → ℕ} {n c : ℕ} (o : Grouped home start n c) whe
         go j g m (yes x) = w.none_before j g x
         go j g m (no x) = foreign j m (λ y. l (omega (arith, y.1)))
 
-  -- where the test says which records are v's, they stand together
+    -- v's own record k, from `start v` on
+    pub home_is : (k : ℕ) → Walked start test i v k → k < start (suc v) → home k ≡ v
+    home_is k w l = o.mine v k of_node w.past_start l
+
+  -- where the test says which records are v's, they stand together: a walk from 0 shows those before them, and one from k shows record k
   module _ (test : ℕ → Bool) (v : ℕ) (of_node : v < n) (own : (k : ℕ) → test k ≡ true → home k ≡ v) (is_own : (k : ℕ) → home k ≡ v → test k ≡ true) where
+    from_own : (k : ℕ) → start v ≤ k → Walked start test k v k
+    from_own k h = walk_start test k v of_node own k (omega arith)
+
     pub stretch : (a b : ℕ) → a ≡ start v → b ≡ start (suc v) → Stretch test c a b
     stretch a b ha hb =
+        let rises = o.rising v of_node in
         record {
-          order = omega (arith, o.rising v of_node);
+          order = omega arith;
           within = omega (arith, starts_end (suc v) (omega arith));
-          inside = λ k h l. is_own k (o.mine v k of_node (omega arith) (omega arith));
-          before = λ k l. foreign test 0 v of_node own k (omega (arith, starts_end v (omega arith))) (λ x. omega (arith, x.0));
-          behind = λ k h l. foreign test 0 v of_node own k l (λ x. omega (arith, x.1));
+          inside = λ k h l. is_own k (home_is test k v of_node own k (from_own k (omega arith)) (omega arith));
+          before = λ k l. (walk_start test 0 v of_node own a (omega arith)).none_before k (omega arith) l;
+          behind = λ k h l. (walk_end test k v of_node own k (from_own k (omega arith)) (λ m. omega arith) (omega arith)).none_before k (omega arith) l;
         }
 
 -- from record i on, the next of those that stand together: itself or their first, where it is one of them, else the end

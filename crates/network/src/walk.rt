@@ -61,7 +61,7 @@ impl<'a> Network<'a> {
         requires { (j ≤ funs self.now) × (v < nodes self.now) }
         ensures { Next (suits self.now v kind x) (funs self.now) j result }
     {
-        let own = self.funs_of(v);
+        let own = self.stretch(FUN_STARTS, v);
         for k in j.max(own.start)..own.end {
             if self.is_for(k, kind, x) {
                 return k;

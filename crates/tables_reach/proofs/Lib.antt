@@ -1,3 +1,4 @@
 pub mod Scans
 pub mod Crossings
+pub mod Closings
 pub mod Turns

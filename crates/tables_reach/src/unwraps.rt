@@ -9,7 +9,6 @@ use paper::place::Place;
 use tables_costs::cost::{FAR, lower_to, step_cost};
 
 // Function j, where it unwraps what hides x at an exit that something gets to.
-#[tactic(auto, unfolding(tables_sweeps::specs::Row::closing))]
 fn close(net: &Network, j: usize, x: usize, exits: &[u64], ends: &mut [u64])
     requires { (j < funs net.now) × (places net.now ≤ length exits.now) × (nodes net.now ≤ length ends.old) }
     ensures { ends.new ≡ closing net.now x exits.now j ends.old }

@@ -1,6 +1,6 @@
 -- What the proofs of the code cite: one law for each function, over plain variables. Assumes nothing.
 use Prim.Native.Nat.{ℕ, ◌-◌}
-use mathlib.Core.Path.{◌≡◌, sym, ◌∙◌}
+use mathlib.Core.Path.{◌≡◌, refl, sym, ◌∙◌}
 use mathlib.Core.Bool.{Bool, true, false, cond, ◌||◌}
 use mathlib.Core.List.{List}
 use lib.ListN.{length, set}
@@ -11,6 +11,14 @@ use Rattle.tables_sweeps.specs.Sweep.{Stage, stage, stamped, visited, node_rows,
 use Rattle.tables_sweeps.proofs.Quiet.{not_both}
 use Rattle.tables_sweeps.proofs.Passes.{passing_over}
 use Rattle.tables_ways.specs.Asked.{Sweeping}
+
+pub marked : (H : List ℕ) (r stamp : ℕ) (b : Bool) → b ≡ true → set H r stamp ≡ cond b (set H r stamp) H
+marked H r stamp true e = refl
+marked H r stamp false e = cc
+
+pub unmarked : (H : List ℕ) (r stamp : ℕ) (b : Bool) → b ≡ false → H ≡ cond b (set H r stamp) H
+unmarked H r stamp true e = cc
+unmarked H r stamp false e = refl
 
 pub visiting : (g : List ℕ) (stamp since v x at : ℕ) (W C H W' C' H' : List ℕ) (b r : Bool) → cells W' C' r ≡ row g H since v x (cells W C false)
     → at ≡ place_in g v x → H' ≡ cond r (set H at stamp) H → stage W' C' H' (b || r) ≡ visited g stamp since v x (stage W C H b)

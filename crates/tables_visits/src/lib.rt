@@ -24,6 +24,7 @@ pub struct Round {
 }
 
 // The stamp of row r, where it fell.
+#[tactic(auto, using(crate::proofs::Turns::marked, crate::proofs::Turns::unmarked))]
 fn mark(stamps: &mut [u32], r: usize, stamp: u32, fell: bool)
     requires { r < length stamps.old }
     ensures { stamps.new ≡ cond fell (set stamps.old r stamp) stamps.old }

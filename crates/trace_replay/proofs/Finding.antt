@@ -17,7 +17,7 @@ use Rattle.laws.proofs.Before.{and_left, and_right}
 use Rattle.network_records.specs.Columns.{kind_of_code}
 use Rattle.network.specs.Network.{links, funs, number, from, to, toll, node, kind, x_of, y_of, fee, hop_in}
 use Rattle.network.specs.Arranged.{Arranged}
-use Rattle.network.specs.Next.{leaves, stands, suits, Stretch, First}
+use Rattle.network.specs.Next.{leaves, stands, suits, Next, Stretch, First}
 use Rattle.network.proofs.Steps.{Found, found, step_at, kind_is}
 use Rattle.trace_replay.specs.Keys.{key_of}
 use Rattle.trace_replay.specs.Hops.{numbered, known}
@@ -28,6 +28,32 @@ and_false a b e = rw e
 
 not_both : {A : Type 0} (b : Bool) → b ≡ true → b ≡ false → A
 not_both b e f = let z : ◌≡◌ {A = ℕ} 0 1 = cc in absurd (omega arith)
+
+-- ## The walk
+
+module _ (test more : ℕ → Bool) (n : ℕ) where
+  -- nothing before r passes both tests, and r passes the first
+  pub record Sought (r : ℕ) : Type 0 where
+    pub at_most : r ≤ n
+    pub none_before : (k : ℕ) → k < r → test k && more k ≡ false
+    pub holds : r < n → test r ≡ true
+
+  pub first : (r : ℕ) → Next test n 0 r → Sought r
+  first r x = record { at_most = x.at_most; none_before = λ k h. and_false (test k) (more k) (x.none_before k (omega arith) h); holds = x.holds }
+
+  pub further : (r s : ℕ) → r < n → Sought r → more r ≡ false → Next test n (r + 1) s → Sought s
+  further r s l w f x = record { at_most = x.at_most; none_before = λ k h. go k h (dec_lt k r) (dec_lt r k); holds = x.holds }
+    where
+      go : (k : ℕ) → k < s → Dec (k < r) → Dec (r < k) → test k && more k ≡ false
+      go k h (yes m) d = w.none_before k m
+      go k h (no m) (yes d) = and_false (test k) (more k) (x.none_before k (omega arith) h)
+      go k h (no m) (no d) = let e : k ≡ r = omega arith in rw (e, w.holds l, f)
+
+  pub here : (r : ℕ) → r < n → Sought r → more r ≡ true → Next (λ k. test k && more k) n 0 r
+  here r l w e = record { from_here = omega arith; at_most = w.at_most; none_before = λ k a h. w.none_before k h; holds = λ h. rw (w.holds l, e) }
+
+  pub nowhere : (r : ℕ) → n ≤ r → Sought r → Next (λ k. test k && more k) n 0 n
+  nowhere r l w = record { from_here = omega arith; at_most = omega arith; none_before = λ k a h. w.none_before k (omega arith); holds = λ h. absurd (omega arith) }
 
 -- ## The first among those of a range
 

@@ -13,7 +13,7 @@ use Rattle.unfold_frames.proofs.Marks.{mark_new, mark_stays, mark_old}
 use Rattle.unfold_exits.specs.Cost.{told_at}
 use Rattle.unfold_exits.specs.Lists.{exit_at}
 use Rattle.unfold_exits.specs.declared.lists.Exit.{Exit}
-use Rattle.unfold_picks.specs.Opening.{Adds, Meets, MeetsOne}
+use Rattle.unfold_picks.specs.Opening.{Adds, Meets, MeetsOne, Marking}
 
 module _ {words o : ℕ} where
   pub adds_none : {P : ℕ → Type 0} {L : List ℕ} → ((e : ℕ) → P e → ⊥) → Adds words o P L L
@@ -64,3 +64,7 @@ module _ {W C : List ℕ} {row : ℕ} (out : Exit) (k a : ℕ) (q : a ≡ told_a
 -- the word of a place stands in the record's room
 pub exit_below : (size o e : ℕ) (L : List ℕ) → e < size → o + 5 + words_for size ≤ length L → o + 5 + e / 16 < length L
 exit_below size o e L h room = omega (arith, div-add-mod e 16)
+
+-- what marking asks, after some was marked
+pub still_marking : {size : ℕ} {O : List Exit} {row o : ℕ} {L L' : List ℕ} → Marking size O row o L → length L' ≡ length L → Marking size O row o L'
+still_marking m e = record { ranged = m.ranged; row_room = m.row_room; record_room = rw e m.record_room }

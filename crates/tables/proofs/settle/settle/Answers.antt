@@ -1,10 +1,8 @@
 use borrow.Author.Rules.{rules}
-use mathlib.Core.Path.{◌≡◌, refl, ◌∙◌}
-use mathlib.Core.Bool.{cond}
+use mathlib.Core.Path.{refl, ◌∙◌}
 use Rattle.tables.proofs.Settling.{settling_begun, settling_turn, left_less, settled}
 use Rattle.tables_visits.proofs.Turns.{still_sweeping}
 use Rattle.tables.proofs.settle.settle.Goals as goal
-use Rattle.tables.proofs.settle.settle.Goals.{then-fell, else-fell}
 
 pub prepare-requires : goal.prepare-requires
 prepare-requires c = rw c.places.ensures.0 c.requires.roomy
@@ -19,9 +17,7 @@ sweep_all-fell-requires c =
     still_sweeping _ _ _ c.requires (k.2 ∙ b.2) (k.3 ∙ b.3) c.loop-done.invariant.1.stamps
 
 pub loop-done-smaller : goal.loop-done-smaller
-loop-done-smaller c =
-    let e : c.if-fell.since ≡ cond c.sweep_all-fell.result c.loop-done.round.stamp 0 = elim c.if-fell.branch [ then-fell w ↦ rw w.if-fell.true w.since-is | else-fell w ↦ rw w.if-fell.false w.since-is ] in
-    left_less _ _ _ _ _ _ _ _ _ _ _ _ c.places.ensures.3 c.sweep_all-fell.ensures.passing refl _ _ _ _ _ c.loop-done.invariant.1 c.loop-done-test.true e
+loop-done-smaller c = left_less _ _ _ _ _ _ _ _ _ _ _ _ c.places.ensures.3 c.sweep_all-fell.ensures.passing refl _ _ _ _ _ c.loop-done.invariant.1 c.loop-done-test.true c.since_when-since.ensures
 
 pub loop-done-preserved : goal.loop-done-preserved
 loop-done-preserved c =
