@@ -1,7 +1,7 @@
 -- The whole file: valid records, and that no second answer fits. Assumes nothing.
 use mathlib.Core.Path.{◌≡◌, refl, sym, ap, ◌∙◌}
 use mathlib.Core.Bool.{cond}
-use mathlib.Core.List.{List}
+use mathlib.Core.List.{List, [], ◌∷◌}
 use Prim.Native.Nat.{ℕ, ◌*◌, ◌<◌, ◌≤◌}
 use native.Mathlib.Omega.{arith}
 use native.Mathlib.Nat.{mul-le-mul_right, le_trans}
@@ -33,6 +33,11 @@ pub file_small : (l : List ℕ) → length l ≤ most_bytes → from_top (lines 
 unfolding judge
 file_small l h = sym (rw (le-ltb 65536 (length l) h))
 
+pub file_empty : (l : List ℕ) → length l ≡ 0 → refused 2 1 ≡ judge l
+unfolding judge lines from_top
+file_empty [] h = refl
+file_empty (b ∷ l) h = absurd (omega arith)
+
 -- ## The records are valid
 
 codes : (z : Size) (ls fs : List ℕ) → Held z ls fs → (j : ℕ) → j < z.funs → kind fs j < 3
@@ -41,7 +46,7 @@ codes z ls fs h j l =
     let m : get_or (entries fs (j * fun_width) fun_width) kind_at 0 < 3 = h.codes.kinds (row_at fun_width fs j) (rows_mem z.funs 0 j (row_at fun_width fs) (omega arith) (omega arith)) in
     rw (get_d_entries fun_width fs (j * fun_width) kind_at (omega arith)) at m
 
-read_valid : (file : List ℕ) (z : Size) (ls fs : List ℕ) → accepted (net_of z ls fs) ≡ judge file → Held z ls fs → Valid z ls fs
+pub read_valid : (file : List ℕ) (z : Size) (ls fs : List ℕ) → accepted (net_of z ls fs) ≡ judge file → Held z ls fs → Valid z ls fs
 read_valid file z ls fs e h =
     valid file z ls fs (sym e)
     (le_trans (mul-le-mul_right {m = z.links} {n = most_records} link_width h.links.few) h.links.room)

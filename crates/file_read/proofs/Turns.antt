@@ -112,6 +112,10 @@ module _ (l ls fs : List ℕ) (i a : ℕ) (z : Size) (ms gs : List ℕ) (s : Sta
         past = untouched_then z y ls ms ns fs gs hs grown.more_links grown.more_funs s.past grown.past;
       }
 
+  -- what is past z's records is as it is
+  pub stands_here : Stands l ms gs i a z ms gs
+  stands_here = record { within = s.within; counted = s.counted; on = s.on; held = s.held; past = untouched_none z ms gs }
+
   pub stands_off : (t : Result Size Fault) (r : Refusal) (xs : List Line) (ns hs : List ℕ) → onward i (lines (drop a l)) (good (net_of z ms gs)) ≡ onward (i + 1) xs (kept_of t ns hs)
       → (t ≡ Err r.fault) × (r.line ≡ i + 1) → refused (number_of r.fault) r.line ≡ from_top (lines l)
   stands_off t r xs ns hs e f = rw f.1 (sym (s.on ∙ (rw f.0 at e) ∙ onward_bad (i + 1) (number_of r.fault) xs))

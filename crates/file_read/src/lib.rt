@@ -124,7 +124,7 @@ fn at_line(line: u32, read: Result<Size, Fault>) -> Result<Size, Refusal>
     read.map_err(|fault| Refusal { fault, line })
 }
 
-// All lines of a file. A file of no byte lacks its first line.
+// All lines of a file.
 fn read_lines(file: &[u8], links: &mut [u32], funs: &mut [u32]) -> Result<Size, Refusal>
     requires { (length file.now ≤ most_bytes) × (link_room ≤ length links.old) × (fun_room ≤ length funs.old) }
     ensures judged { judged_of result links.new funs.new ≡ from_top (lines file.now) }
@@ -153,6 +153,13 @@ pub fn read(file: &[u8], links: &mut [u32], funs: &mut [u32]) -> Result<Size, Re
         return Err(Refusal {
             fault: Fault::TooLong,
             line: 0,
+        });
+    }
+    // A file of no byte lacks its first line.
+    if file.is_empty() {
+        return Err(Refusal {
+            fault: Fault::Misshapen,
+            line: 1,
         });
     }
     read_lines(file, links, funs)

@@ -6,11 +6,14 @@ use mathlib.Core.List.{List}
 use mathlib.Core.Logic.{inl, inr, ⊎_elim}
 use native.Mathlib.Omega.{arith}
 use lib.Dec.{eqb}
+use denote.Enum.Bare.{sameb}
 use borrow.Author.Tests.{eqb-true, eqb-false, eq-eqb}
 use Rattle.laws.proofs.Before.{and_left, and_right}
 use Rattle.paper.specs.Net.{code}
 use Rattle.network_records.specs.Kinds.{named}
+use Rattle.network_records.specs.contracts.kind.Kind.{the_type}
 use Rattle.network_records.specs.declared.kind.Kind.{Kind}
+use Rattle.network_records.specs.declared.kind.Kind.TheVariants.{Conv, Wrap, Unwrap}
 use Rattle.network.specs.Network.{protocols, links, funs, node, kind, x_of, y_of}
 use Rattle.network.specs.Arranged.{Arranged}
 use Rattle.network.specs.Next.{stands}
@@ -36,9 +39,34 @@ pub stands_at : (g : List ℕ) (v j : ℕ) → stands g v j ≡ true → node g 
 unfolding stands
 stands_at g v j e = eqb-true (node g j) v e
 
-module _ (g : List ℕ) (k j : ℕ) where
-  -- what is sought serves
+-- a kind that is tested for an unwrap
+unwrap_tested : (k : Kind) → sameb the_type k Unwrap ≡ eqb (code (named k)) 2
+unwrap_tested Conv = refl
+unwrap_tested Wrap = refl
+unwrap_tested Unwrap = refl
 
+module _ (k : Kind) {r : Bool} (q : r ≡ sameb the_type k Unwrap) where
+  pub is_unwrap : r ≡ true → code (named k) ≡ 2
+  is_unwrap h = eqb-true (code (named k)) 2 (sym (unwrap_tested k) ∙ sym q ∙ h)
+
+  pub no_unwrap : r ≡ false → code (named k) ≡ 2 → ⊥
+  no_unwrap h = eqb-false (code (named k)) 2 (sym (unwrap_tested k) ∙ sym q ∙ h)
+
+module _ (g : List ℕ) (k j : ℕ) where
+  pub unwrap_top : k ≡ 2 → y_of g j ≡ top_of g k j
+  unfolding top_of
+  unwrap_top e = rw e
+
+  -- what is sought is for x on top, an unwrap if its y is
+  pub sought_top : (x h : ℕ) → (eqb (kind g j) k && eqb (x_of g j) (sought_by k x h)) ≡ true → (k ≡ 2 → y_of g j ≡ x) → top_of g k j ≡ x
+  unfolding sought_by top_of
+  sought_top x h t y = go (eqb k 2) refl (eqb-true (x_of g j) (cond (eqb k 2) h x) (and_right (eqb (kind g j) k) _ t))
+    where
+      go : (b : Bool) → eqb k 2 ≡ b → x_of g j ≡ cond b h x → cond b (y_of g j) (x_of g j) ≡ x
+      go true e i = y (eqb-true k 2 e)
+      go false e i = i
+
+  -- what is sought serves
   module _ (v x h : ℕ) where
     pub serves_sought : Serves g v k x h j → (eqb (kind g j) k && eqb (x_of g j) (sought_by k x h)) ≡ true
     unfolding sought_by top_of

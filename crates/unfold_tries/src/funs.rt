@@ -3,7 +3,7 @@ ghost use Rattle.std.specs.Prelude.{◌≡◌, ◌<◌};
 ghost use Rattle.paper.specs.Net.{code};
 ghost use Rattle.network_records.specs.Kinds.{named};
 ghost use Rattle.network.specs.Network.{funs, node};
-ghost use Rattle.unfold_tries.specs.Trial.{Better, Any, ByFun, Trying, sought_by, top_of, next_of, use_of};
+ghost use Rattle.unfold_tries.specs.Trial.{Better, Any, ByFun, Trying, sought_by, next_of, use_of};
 
 use crate::links::try_links;
 use crate::trial::{Spot, Step, Use};
@@ -20,18 +20,6 @@ fn sought_by(kind: Kind, top: usize, hidden: usize) -> usize
     match kind {
         Kind::Conv | Kind::Wrap => top,
         Kind::Unwrap => hidden,
-    }
-}
-
-// The protocol that function j, of a kind, asks for on top.
-#[tactic(auto, unfolding(crate::specs::Trial::top_of))]
-fn top_of(net: &Network, kind: Kind, j: usize) -> usize
-    requires { j < funs net.now }
-    ensures { result ≡ top_of net.now (code (named kind)) j }
-{
-    match kind {
-        Kind::Conv | Kind::Wrap => net.fun_x(j),
-        Kind::Unwrap => net.fun_y(j),
     }
 }
 
@@ -80,7 +68,7 @@ fn try_fun(
     if !net.serves(j, kind, x) {
         return best;
     }
-    if top_of(net, kind, j) != at.protocol {
+    if kind == Kind::Unwrap && net.fun_y(j) != at.protocol {
         return best;
     }
     try_links(solved, exits, at, use_of(solved, kind, j), best)
